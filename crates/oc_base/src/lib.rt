@@ -1,0 +1,13 @@
+//! The outside as Marangdeck sees it: sources, sinks and files whose meaning contracts can name,
+//! and the small types that every crate above shares.
+#![tactic(auto)]
+
+pub mod fault;
+pub mod files;
+pub mod items;
+pub mod memory;
+pub mod range;
+pub mod real;
+pub mod sink;
+pub mod source;
+pub mod text;
