@@ -5,6 +5,7 @@ ghost use Rattle.std.specs.Prelude.{◌≡◌, ◌⊎◌, [], ◌∷◌, IfSome,
 ghost use Rattle.rv_isa.specs.declared.instr.Instr.{Instr};
 ghost use Rattle.rv_isa.specs.Instr.{HasWord};
 ghost use Rattle.rv_isa.specs.Word.{opcode, funct3};
+ghost use Rattle.rv_isa.specs.Decoded.{decoded};
 ghost use Rattle.rv_isa.specs.Reads.{Reads, amount_of, width_row};
 ghost use Rattle.rv_isa.specs.Rows.{Has};
 
@@ -24,6 +25,7 @@ use word::{
 /// FENCE is read with any operands.
 #[tactic(auto, unfolding(rv_isa::specs::Reads::Reads))]
 pub fn decode(w: u32) -> Option<Instr>
+    ensures is { result ≡ decoded w }
     ensures reads { IfSome result (Reads w) }
     ensures only { (i : Instr) → Reads w i → result ≡ Some i }
     ensures none { IsNone result ↔ ((i : Instr) → Reads w i → ⊥) }
