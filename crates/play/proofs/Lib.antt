@@ -1,0 +1,3 @@
+pub mod Decided
+pub mod Stays
+pub mod Written

@@ -1,0 +1,118 @@
+//! How a call ends, with its exit status and its last line.
+
+ghost use Rattle.std.specs.Prelude.{◌≡◌, false, IfOk, string_bytes};
+ghost use Rattle.std.specs.Fmt.{digits};
+ghost use Rattle.play.specs.Answer.{status_of, line_of};
+
+use oc_base::fault::NoMemory;
+use oc_base::items::Items;
+use oc_base::text::Text;
+use std::alloc::{AllocError, Global};
+
+/// How a run ends.
+#[derive(Clone, Copy, Debug, PartialEq, Eq)]
+pub enum Outcome {
+    /// The guest exited with this status.
+    Exit(u8),
+    /// The guest trapped: the cause's number, the address of the instruction, and the cause's own value.
+    Trap { cause: u8, pc: u64, value: u64 },
+    /// A write would have passed the limit of an output.
+    OutputFull,
+    /// The script ended before the guest did.
+    Unfinished,
+}
+
+/// How a call ends.
+#[derive(Debug, Drop)]
+pub enum Ended {
+    /// The program ran under the script, and all that it delivers is written.
+    Ran(Outcome),
+    /// The words aren't a program and a script.
+    Usage,
+    /// A file of this name could not be read.
+    ReadFault(Text),
+    /// A file of this name is longer than its limit.
+    TooLong(Text),
+    /// The program or the script has not yet a form that can be run.
+    Early,
+    /// An output could not be written.
+    WriteFault,
+    /// There was no room in memory.
+    NoMemory,
+}
+
+/// What a call answers.
+#[derive(Debug, Drop)]
+pub struct Answer {
+    /// The exit status of the program that made the call.
+    pub status: u8,
+    pub ended: Ended,
+}
+
+/// The exit status of a call that ended so.
+pub fn status(ended: &Ended) -> u8
+    ensures { result ≡ status_of ended.now }
+{
+    match ended {
+        Ended::Ran(Outcome::Exit(code)) => *code,
+        Ended::Ran(Outcome::OutputFull) => 112,
+        Ended::Ran(Outcome::Unfinished) => 115,
+        Ended::Ran(Outcome::Trap { .. }) => 118,
+        Ended::Early => 111,
+        Ended::Usage => 120,
+        Ended::ReadFault(_) => 121,
+        Ended::WriteFault => 122,
+        Ended::NoMemory => 125,
+        Ended::TooLong(_) => 126,
+    }
+}
+
+fn hexadecimal(alloc: Global, n: u64) -> Result<String, AllocError>
+    ensures { IfOk result (λ text. string_bytes text ≡ digits 16 false n) }
+{
+    format!(in alloc; "{n:x}")
+}
+
+fn trap_line(alloc: Global, cause: u8, pc: u64, value: u64) -> Result<String, AllocError>
+    ensures { IfOk result (λ line. string_bytes line ≡ line_of (Ended.Ran (Outcome.Trap cause pc value))) }
+{
+    let pc = hexadecimal(alloc, pc)?;
+    let value = hexadecimal(alloc, value)?;
+    format!(in alloc; "ocolos: trap {cause} at 0x{pc} value 0x{value}\n")
+}
+
+fn outcome_line(alloc: Global, outcome: Outcome) -> Result<String, AllocError>
+    ensures { IfOk result (λ line. string_bytes line ≡ line_of (Ended.Ran outcome)) }
+{
+    match outcome {
+        Outcome::Exit(code) => format!(in alloc; "ocolos: exit {code}\n"),
+        Outcome::Trap { cause, pc, value } => trap_line(alloc, cause, pc, value),
+        Outcome::OutputFull => String::from_str(alloc, "ocolos: output full\n"),
+        Outcome::Unfinished => String::from_str(alloc, "ocolos: unfinished\n"),
+    }
+}
+
+/// The line that a call which ended so writes last, with its newline; none after a fault of writing.
+pub fn last_line(alloc: Global, ended: &Ended) -> Result<Items<u8>, NoMemory>
+    ensures { IfOk result (λ line. line ≡ line_of ended.now) }
+{
+    let text = match ended {
+        Ended::Ran(outcome) => outcome_line(alloc, *outcome),
+        Ended::Early => String::from_str(alloc, "ocolos: early\n"),
+        Ended::Usage => String::from_str(alloc, "ocolos: usage\n"),
+        Ended::ReadFault(name) => {
+            let name = name.as_str();
+            format!(in alloc; "ocolos: cannot read {name}\n")
+        }
+        Ended::TooLong(name) => {
+            let name = name.as_str();
+            format!(in alloc; "ocolos: too long {name}\n")
+        }
+        Ended::WriteFault => Ok(String::new(alloc)),
+        Ended::NoMemory => String::from_str(alloc, "ocolos: out of memory\n"),
+    };
+    match text {
+        Ok(text) => Ok(Items::from_vec(text.into_bytes())),
+        Err(_) => Err(NoMemory),
+    }
+}
