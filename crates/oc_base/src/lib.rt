@@ -10,4 +10,6 @@ pub mod range;
 pub mod real;
 pub mod sink;
 pub mod source;
+#[cfg(test)]
+mod tests;
 pub mod text;

@@ -66,7 +66,10 @@ pub fn run(alloc: Global, program: &[u8], script: &[u8]) -> Result<Delivery, End
         return Err(Ended::NoMemory);
     };
     let Machine {
-        out, err, outcome, ..
+        out,
+        err,
+        outcome,
+        ..
     } = machine;
     let Ok(err) = closed(err) else {
         return Err(Ended::NoMemory);

@@ -20,3 +20,6 @@ pub const OUTPUT_LIMIT: usize = 16777216;
 
 /// The most steps that a script asks for.
 pub const STEP_LIMIT: u32 = 2000000000;
+
+#[cfg(test)]
+mod tests;

@@ -27,9 +27,16 @@ pub enum Output {
 #[derive(Clone, Copy, Debug, PartialEq, Eq)]
 pub enum Effect {
     /// A register gets a value, and the next instruction follows.
-    Next { rd: Reg, value: u64 },
+    Next {
+        rd: Reg,
+        value: u64,
+    },
     /// Bytes of the data are added to an output, their number goes to x10, and the next instruction follows.
-    Append { output: Output, from: u64, count: u64 },
+    Append {
+        output: Output,
+        from: u64,
+        count: u64,
+    },
     /// The run ends.
     Stop(Outcome),
 }

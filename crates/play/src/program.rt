@@ -113,7 +113,13 @@ fn is_run(word: u32) -> bool
 {
     matches!(
         decode(word),
-        Some(Instr::AluImm { op: ImmOp::Addi, .. } | Instr::Lui { .. } | Instr::Ecall)
+        Some(
+            Instr::AluImm {
+                op: ImmOp::Addi,
+                ..
+            } | Instr::Lui { .. }
+                | Instr::Ecall
+        )
     )
 }
 

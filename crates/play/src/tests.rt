@@ -1,0 +1,275 @@
+//! Runs over the implementations in memory: what is answered and what is written.
+
+use crate::PROGRAM_LIMIT;
+use crate::call::play;
+use oc_base::memory::{MemFiles, MemSink, MemSource};
+use std::alloc::Global;
+use std::process::Abort;
+use std::test::Fail;
+
+// The text of a guest that writes the three bytes at 0x11000 to output 1 and exits with 0, as RISC-V words.
+const HI: [u32; 8] = [
+    0x0010_0513, // addi x10, x0, 1
+    0x0400_0893, // addi x17, x0, 64
+    0x0001_15b7, // lui x11, 17
+    0x0030_0613, // addi x12, x0, 3
+    0x0000_0073, // ecall
+    0x0000_0513, // addi x10, x0, 0
+    0x05d0_0893, // addi x17, x0, 93
+    0x0000_0073, // ecall
+];
+
+fn put(file: &mut Vec<u8>, bytes: &[u8]) -> Result<(), Fail> {
+    Ok(file.extend_from_slice(bytes)?)
+}
+
+fn program_header(
+    file: &mut Vec<u8>,
+    flags: u32,
+    offset: u64,
+    at: u64,
+    size: u64,
+) -> Result<(), Fail> {
+    put(file, &1u32.to_le_bytes())?;
+    put(file, &flags.to_le_bytes())?;
+    for field in [offset, at, at, size, size, 4096] {
+        put(file, &field.to_le_bytes())?;
+    }
+    Ok(())
+}
+
+// An ELF file with these words of text at 0x10000 and `hi` with a newline at 0x11000.
+fn program(alloc: Global, words: &[u32]) -> Result<Vec<u8>, Fail> {
+    let mut file = Vec::new(alloc);
+    put(
+        &mut file,
+        b"\x7fELF\x02\x01\x01\0\0\0\0\0\0\0\0\0\x02\0\xf3\0\x01\0\0\0",
+    )?;
+    put(&mut file, &0x10000u64.to_le_bytes())?;
+    put(&mut file, &64u64.to_le_bytes())?;
+    put(
+        &mut file,
+        b"\0\0\0\0\0\0\0\0\0\0\0\0\x40\0\x38\0\x02\0\x40\0\0\0\0\0",
+    )?;
+    program_header(&mut file, 5, 176, 0x10000, 32)?;
+    program_header(&mut file, 6, 208, 0x11000, 3)?;
+    for word in words {
+        put(&mut file, &word.to_le_bytes())?;
+    }
+    put(&mut file, b"hi\n")?;
+    Ok(file)
+}
+
+fn named(alloc: Global, name: &str, bytes: Vec<u8>) -> Result<(String, Vec<u8>), Fail> {
+    Ok((String::from_str(alloc, name)?, bytes))
+}
+
+// The files of all rows.
+fn disk(alloc: Global) -> Result<Vec<(String, Vec<u8>)>, Fail> {
+    let mut trapping = HI;
+    trapping[7] = 0x0000_0013;
+    let mut branching = HI;
+    branching[7] = 0x0000_0063;
+    let mut files = Vec::new(alloc);
+    files.push(named(alloc, "hi.elf", program(alloc, &HI)?)?)?;
+    files.push(named(alloc, "trap.elf", program(alloc, &trapping)?)?)?;
+    files.push(named(alloc, "branch.elf", program(alloc, &branching)?)?)?;
+    files.push(named(alloc, "whole", b"real 0 100\nend\n".to_vec(alloc)?)?)?;
+    files.push(named(alloc, "no newline", b"real 0 100\nend".to_vec(alloc)?)?)?;
+    files.push(named(alloc, "four", b"real 0 4\nend\n".to_vec(alloc)?)?)?;
+    files.push(named(alloc, "till", b"till 100\nend\n".to_vec(alloc)?)?)?;
+    files.push(named(alloc, "most", b"real 0 2000000000\nend\n".to_vec(alloc)?)?)?;
+    files.push(named(
+        alloc,
+        "too many",
+        b"real 0 2000000001\nend\n".to_vec(alloc)?,
+    )?)?;
+    Ok(files)
+}
+
+// A call: its words, the numbers of the calls of `files`, `out` and `err` that fail (0: none), and its answer.
+struct Row {
+    words: &'static [&'static str],
+    fails: [u64; 3],
+    status: u8,
+    out: &'static str,
+    err: &'static str,
+}
+
+fn failing(alloc: Global, number: u64) -> Result<Vec<u64>, Fail> {
+    let mut numbers = Vec::new(alloc);
+    if number > 0 {
+        numbers.push(number)?;
+    }
+    Ok(numbers)
+}
+
+fn check(rt: &(impl Abort + AllocGlobal), row: &Row) -> Result<(), Fail> {
+    let alloc = rt.alloc();
+    let mut words = Vec::new(alloc);
+    for word in row.words {
+        words.push(String::from_str(alloc, word)?)?;
+    }
+    let mut files = MemFiles::new(disk(alloc)?, failing(alloc, row.fails[0])?);
+    let mut input = MemSource::new(Vec::new(alloc), Vec::new(alloc));
+    let mut out = MemSink::new(Vec::new(alloc), failing(alloc, row.fails[1])?);
+    let mut err = MemSink::new(Vec::new(alloc), failing(alloc, row.fails[2])?);
+    let answer = play(alloc, &words, &mut files, &mut input, &mut out, &mut err);
+    assert_eq!(rt; answer.status, row.status);
+    assert_eq!(rt; out.held(), row.out.as_bytes());
+    assert_eq!(rt; err.held(), row.err.as_bytes());
+    Ok(())
+}
+
+const RUNS: [Row; 6] = [
+    Row {
+        words: &["hi.elf", "whole"],
+        fails: [0, 0, 0],
+        status: 0,
+        out: "hi\n",
+        err: "ocolos: exit 0\n",
+    },
+    Row {
+        words: &["hi.elf", "no newline"],
+        fails: [0, 0, 0],
+        status: 0,
+        out: "hi\n",
+        err: "ocolos: exit 0\n",
+    },
+    Row {
+        words: &["hi.elf", "most"],
+        fails: [0, 0, 0],
+        status: 0,
+        out: "hi\n",
+        err: "ocolos: exit 0\n",
+    },
+    Row {
+        words: &["hi.elf", "four"],
+        fails: [0, 0, 0],
+        status: 115,
+        out: "",
+        err: "ocolos: unfinished\n",
+    },
+    Row {
+        words: &["trap.elf", "whole"],
+        fails: [0, 0, 0],
+        status: 118,
+        out: "hi\n",
+        err: "ocolos: trap 1 at 0x10020 value 0x10020\n",
+    },
+    Row {
+        words: &["hi.elf", "whole"],
+        fails: [0, 0, 1],
+        status: 122,
+        out: "hi\n",
+        err: "",
+    },
+];
+
+const REFUSALS: [Row; 10] = [
+    Row {
+        words: &["hi.elf", "till"],
+        fails: [0, 0, 0],
+        status: 111,
+        out: "",
+        err: "ocolos: early\n",
+    },
+    Row {
+        words: &["hi.elf", "too many"],
+        fails: [0, 0, 0],
+        status: 111,
+        out: "",
+        err: "ocolos: early\n",
+    },
+    Row {
+        words: &["branch.elf", "whole"],
+        fails: [0, 0, 0],
+        status: 111,
+        out: "",
+        err: "ocolos: early\n",
+    },
+    Row {
+        words: &["hi.elf"],
+        fails: [0, 0, 0],
+        status: 120,
+        out: "",
+        err: "ocolos: usage\n",
+    },
+    Row {
+        words: &["hi.elf", "whole", "more"],
+        fails: [0, 0, 0],
+        status: 120,
+        out: "",
+        err: "ocolos: usage\n",
+    },
+    Row {
+        words: &["none.elf", "whole"],
+        fails: [0, 0, 0],
+        status: 121,
+        out: "",
+        err: "ocolos: cannot read none.elf\n",
+    },
+    Row {
+        words: &["hi.elf", "none"],
+        fails: [0, 0, 0],
+        status: 121,
+        out: "",
+        err: "ocolos: cannot read none\n",
+    },
+    Row {
+        words: &["hi.elf", "whole"],
+        fails: [1, 0, 0],
+        status: 121,
+        out: "",
+        err: "ocolos: cannot read hi.elf\n",
+    },
+    Row {
+        words: &["hi.elf", "whole"],
+        fails: [2, 0, 0],
+        status: 121,
+        out: "",
+        err: "ocolos: cannot read whole\n",
+    },
+    Row {
+        words: &["hi.elf", "whole"],
+        fails: [0, 1, 0],
+        status: 122,
+        out: "",
+        err: "",
+    },
+];
+
+#[test]
+fn runs_deliver_what_the_guest_wrote(rt: HostRuntime) -> Result<(), Fail> {
+    for row in &RUNS {
+        check(&rt, row)?;
+    }
+    Ok(())
+}
+
+#[test]
+fn refusals_name_their_cause(rt: HostRuntime) -> Result<(), Fail> {
+    for row in &REFUSALS {
+        check(&rt, row)?;
+    }
+    Ok(())
+}
+
+#[test]
+fn a_program_past_its_limit_is_too_long(rt: HostRuntime) -> Result<(), Fail> {
+    let alloc = rt.alloc();
+    let mut files = Vec::new(alloc);
+    let bytes = vec![in alloc; 0u8; PROGRAM_LIMIT + 1]?;
+    files.push(named(alloc, "long.elf", bytes)?)?;
+    let mut files = MemFiles::new(files, Vec::new(alloc));
+    let mut input = MemSource::new(Vec::new(alloc), Vec::new(alloc));
+    let mut out = MemSink::new(Vec::new(alloc), Vec::new(alloc));
+    let mut err = MemSink::new(Vec::new(alloc), Vec::new(alloc));
+    let mut words = Vec::new(alloc);
+    words.push(String::from_str(alloc, "long.elf")?)?;
+    words.push(String::from_str(alloc, "whole")?)?;
+    let answer = play(alloc, &words, &mut files, &mut input, &mut out, &mut err);
+    assert_eq!(&rt; answer.status, 126);
+    assert_eq!(&rt; err.held(), "ocolos: too long long.elf\n".as_bytes());
+    Ok(())
+}
