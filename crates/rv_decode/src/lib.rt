@@ -240,3 +240,6 @@ fn atomic(w: u32, wide: bool) -> Option<Instr>
         }
     }
 }
+
+#[cfg(test)]
+mod tests;
