@@ -1,0 +1,6 @@
+pub mod Fields
+pub mod Header
+pub mod Tables
+pub mod Faults
+pub mod Parts
+pub mod Whole

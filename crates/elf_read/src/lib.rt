@@ -1,0 +1,13 @@
+//! Parts of an executable's bytes, or the first fault in them.
+#![tactic(auto)]
+
+pub mod checks;
+pub mod elf;
+pub mod fault;
+pub mod fields;
+pub mod header;
+pub mod parts;
+pub mod read;
+pub mod reading;
+pub mod tables;
+pub mod whole;

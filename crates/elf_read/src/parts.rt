@@ -1,0 +1,203 @@
+//! The parts, read one by one.
+
+ghost use Rattle.std.specs.Prelude.{◌≡◌, ◌/◌, ◌++◌, ◌==◌, ◌<◌, length, map, position, Some, None, IfSome, IfOk, OnOk, false};
+ghost use Rattle.std.specs.List.{before_first};
+ghost use Rattle.elf_read.specs.Tables.{table};
+ghost use Rattle.elf_read.specs.Faults.{is_outside, is_loaded, first_outside_segment, first_outside_section, is_table, is_symbols};
+ghost use Rattle.elf_read.specs.Parts.{segment, segments, section, strings, name_at, symbol, symbols, relocs_of, relocs};
+
+use crate::checks::is_loaded;
+use crate::elf::{Section, Segment, Symbol};
+use crate::fields::range_of;
+use crate::tables::{Entry, ProgramHeader, Reloc, SectionHeader, SymbolEntry, read_table};
+use oc_base::fault::NoMemory;
+use oc_base::items::Items;
+use std::alloc::Global;
+
+#[tactic(auto, unfolding(crate::specs::Parts::segment))]
+fn segment(alloc: Global, bytes: &[u8], h: &ProgramHeader) -> Result<Segment, NoMemory>
+    requires { is_outside (length bytes.now) h.now.offset h.now.file_size ≡ false }
+    ensures { IfOk result (λ s. s ≡ segment bytes.now h.now) }
+{
+    Ok(Segment {
+        flags: h.flags,
+        offset: h.offset,
+        at: h.address,
+        memsize: h.memory_size,
+        bytes: Items::from_slice(alloc, range_of(bytes, h.offset, h.file_size))?,
+    })
+}
+
+pub fn sections(alloc: Global, headers: &[SectionHeader]) -> Result<Items<Section>, NoMemory>
+    ensures { IfOk result (λ v. v ≡ map section headers.now) }
+{
+    let mut all = Vec::new(alloc);
+    for s in headers {
+        all.push(Section {
+            kind: s.kind,
+            flags: s.flags,
+            at: s.address,
+            offset: s.offset,
+            size: s.size,
+        })?;
+    }
+    Ok(Items::from_vec(all))
+}
+
+fn first_zero(texts: &[u8]) -> Option<usize>
+    ensures first { result ≡ position (λ b. b == 0) texts.now }
+    ensures within { IfSome result (λ i. i < length texts.now) }
+{
+    texts.iter().position(|b| *b == 0)
+}
+
+/// What stands before the first zero byte.
+#[tactic(auto, using(finite::proofs::Finding::before_found, finite::proofs::Finding::before_none))]
+fn before_zero(texts: &[u8]) -> &[u8]
+    ensures { result.now ≡ before_first (λ b. b == 0) texts.now }
+{
+    match first_zero(texts) {
+        Some(end) => &texts[..end],
+        None => texts,
+    }
+}
+
+/// The bytes from an offset of the strings up to the next zero byte.
+#[tactic(auto, unfolding(crate::specs::Parts::name_at))]
+fn name_at(alloc: Global, texts: &[u8], at: u32) -> Result<Items<u8>, NoMemory>
+    ensures { IfOk result (λ name. name ≡ name_at texts.now at) }
+{
+    let at = (at as usize).min(texts.len());
+    Items::from_slice(alloc, before_zero(&texts[at..]))
+}
+
+#[tactic(auto, unfolding(crate::specs::Parts::symbol))]
+fn symbol(alloc: Global, texts: &[u8], e: &SymbolEntry) -> Result<Symbol, NoMemory>
+    ensures { IfOk result (λ s. s ≡ symbol texts.now e.now) }
+{
+    Ok(Symbol {
+        name: name_at(alloc, texts, e.name)?,
+        info: e.info,
+        section: e.section,
+        value: e.value,
+        size: e.size,
+    })
+}
+
+/// The loaded segments, with their bytes.
+#[tactic(auto, unfolding(crate::specs::Parts::segments), using(finite::proofs::Filtered::map_filter_more, crate::proofs::Loops::segment_inside))]
+pub fn segments(
+    alloc: Global,
+    bytes: &[u8],
+    headers: &[ProgramHeader],
+) -> Result<Items<Segment>, NoMemory>
+    requires { first_outside_segment (length bytes.now) headers.now ≡ None }
+    ensures { IfOk result (λ v. v ≡ segments bytes.now headers.now) }
+{
+    let mut all = Vec::new(alloc);
+    for h in headers {
+        if is_loaded(h) {
+            all.push(segment(alloc, bytes, h)?)?;
+        }
+    }
+    Ok(Items::from_vec(all))
+}
+
+fn named(alloc: Global, texts: &[u8], entries: &[SymbolEntry]) -> Result<Items<Symbol>, NoMemory>
+    ensures { IfOk result (λ v. v ≡ map (symbol texts.now) entries.now) }
+{
+    let mut all = Vec::new(alloc);
+    for e in entries {
+        all.push(symbol(alloc, texts, e)?)?;
+    }
+    Ok(Items::from_vec(all))
+}
+
+/// The entries of a table that one section holds.
+#[tactic(auto, using(crate::proofs::Loops::table_none))]
+fn entries_of<E: Entry>(alloc: Global, bytes: &[u8], s: &SectionHeader) -> Result<Vec<E>, NoMemory>
+    requires size { 0 < E.SIZE }
+    requires inside { is_outside (length bytes.now) s.now.offset s.now.size ≡ false }
+    ensures { IfOk result (λ v. v.items ≡ table E.SIZE E.entry_at bytes.now s.now.offset (s.now.size / E.SIZE)) }
+{
+    let count = s.size as usize / E::SIZE;
+    if count == 0 {
+        return read_table(alloc, bytes, 0, 0);
+    }
+    read_table(alloc, bytes, s.offset as usize, count)
+}
+
+/// Adds the relocations of one section.
+#[tactic(auto, unfolding(crate::specs::Parts::relocs_of))]
+fn push_relocs(
+    alloc: Global,
+    out: &mut Vec<Reloc>,
+    bytes: &[u8],
+    s: &SectionHeader,
+    n: u64,
+) -> Result<(), NoMemory>
+    requires { is_outside (length bytes.now) s.now.offset s.now.size ≡ false }
+    ensures { OnOk result (out.new.items ≡ out.old.items ++ relocs_of bytes.now n s.now) }
+{
+    let entries: Vec<Reloc> = entries_of(alloc, bytes, s)?;
+    let entries = entries.as_slice();
+    for r in entries {
+        if (r.symbol as u64) < n {
+            out.push(*r)?;
+        }
+    }
+    Ok(())
+}
+
+/// The relocations of the sections that name the symbol table.
+#[tactic(auto, unfolding(crate::specs::Parts::relocs), using(finite::proofs::Filtered::flat_map_filter_more, crate::proofs::Loops::section_inside))]
+pub fn relocs(
+    alloc: Global,
+    bytes: &[u8],
+    sections: &[SectionHeader],
+    place: usize,
+    n: u64,
+) -> Result<Items<Reloc>, NoMemory>
+    requires { first_outside_section (length bytes.now) sections.now ≡ None }
+    ensures { IfOk result (λ v. v ≡ relocs bytes.now sections.now place n) }
+{
+    let mut all = Vec::new(alloc);
+    for s in sections {
+        if s.kind == 4 && s.link as usize == place {
+            push_relocs(alloc, &mut all, bytes, s, n)?;
+        }
+    }
+    Ok(Items::from_vec(all))
+}
+
+/// The strings that a section names.
+#[tactic(auto, unfolding(crate::specs::Parts::strings), using(crate::proofs::Loops::section_inside))]
+fn strings<'a>(bytes: &'a [u8], sections: &[SectionHeader], link: u32) -> &'a [u8]
+    requires { first_outside_section (length bytes.now) sections.now ≡ None }
+    ensures { result.now ≡ strings bytes.now sections.now link }
+{
+    let link = link as usize;
+    if link < sections.len() && sections[link].kind == 3 {
+        range_of(bytes, sections[link].offset, sections[link].size)
+    } else {
+        &[]
+    }
+}
+
+/// The symbols of the first symbol table.
+#[tactic(auto, unfolding(crate::specs::Parts::symbols), using(crate::proofs::Loops::symbols_inside, finite::proofs::Finding::found_at))]
+pub fn symbols(
+    alloc: Global,
+    bytes: &[u8],
+    sections: &[SectionHeader],
+    place: usize,
+) -> Result<Items<Symbol>, NoMemory>
+    requires sections { first_outside_section (length bytes.now) sections.now ≡ None }
+    requires place { position is_symbols sections.now ≡ Some place }
+    ensures { IfOk result (λ v. v ≡ symbols bytes.now sections.now) }
+{
+    let s = sections[place];
+    let texts = strings(bytes, sections, s.link);
+    let entries: Vec<SymbolEntry> = entries_of(alloc, bytes, &s)?;
+    named(alloc, texts, &entries)
+}

@@ -1,0 +1,70 @@
+-- The first element that passes a test.
+use Rattle.std.proofs.Common.{◌≡◌, ℕ, zero, suc, ◌+◌, ◌<◌, ◌≤◌, Bool, true, false, cond, List, [], ◌∷◌, ◌++◌, length, take, drop, get_or, Option, Some, None, refl, sym, ap, ltb, arith}
+use Rattle.std.specs.Prelude.{not}
+use Rattle.std.specs.List.{find, flat_map, position, list_any, position_or_len, before_first}
+use Rattle.std.specs.Option.{option_map, option_or}
+use Rattle.std.proofs.lemmas.Bool.{ltb-false, ltb-true}
+use Rattle.std.proofs.lemmas.Option.{cond_some}
+use Rattle.std.proofs.lemmas.List.{drop_more, take_all}
+use Rattle.std.proofs.lemmas.List.Folds.{list_any_at}
+
+not_passed : (b : Bool) → (b ≡ true → ⊥) → b ≡ false
+not_passed true h = absurd (h refl)
+not_passed false h = refl
+
+pub none_by_cond : {X : Type 0} (b : Bool) (x : X) (o : Option X) → cond b (Some x) o ≡ None → (b ≡ false) × (o ≡ None)
+none_by_cond true x o e = absurd cc
+none_by_cond false x o e = (refl, e)
+
+pub none_by_map : {X Y : Type 0} (f : X → Y) (o : Option X) → option_map f o ≡ None → o ≡ None
+none_by_map f None e = refl
+none_by_map f (Some x) e = absurd cc
+
+-- nothing was found, so each fails
+pub find_none : {X : Type 0} (p : X → Bool) (xs : List X) (i : ℕ) (d : X) → find p xs ≡ None → i < length xs → p (get_or xs i d) ≡ false
+find_none p [] i d e lt = absurd (omega arith)
+find_none p (x ∷ xs) zero d e lt = (none_by_cond (p x) x (find p xs) e).0
+find_none p (x ∷ xs) (suc i) d e lt = find_none p xs i d (none_by_cond (p x) x (find p xs) e).1 (omega arith)
+
+pub any_none : {X : Type 0} (p : X → Bool) (xs : List X) (i : ℕ) (d : X) → list_any p xs ≡ false → i < length xs → p (get_or xs i d) ≡ false
+any_none p xs i d e lt = not_passed (p (get_or xs i d)) (λ h. absurd (let at = list_any_at p xs i d lt h in cc))
+
+-- what stands before the first that passes
+pub before_found : {X : Type 0} (p : X → Bool) (xs : List X) (i : ℕ) → position p xs ≡ Some i → take i xs ≡ before_first p xs
+before_found p xs i e = ap (λ (n : ℕ). take n xs) (sym (cond_some (ltb (position_or_len p xs) (length xs)) (position_or_len p xs) i e).1)
+
+pub before_none : {X : Type 0} (p : X → Bool) (xs : List X) → position p xs ≡ None → xs ≡ before_first p xs
+before_none p xs e =
+    let le : length xs ≤ position_or_len p xs = ltb-false _ _ (none_by_cond (ltb (position_or_len p xs) (length xs)) (position_or_len p xs) None e).0 in
+    sym (take_all (position_or_len p xs) xs le)
+
+found_step : {X : Type 0} (b : Bool) (x : X) (n : ℕ) (xs : List X) (d : X) (rest : Option X) → (n < length xs → rest ≡ Some (get_or xs n d)) → cond (not b) (1 + n) 0 < suc (length xs) → cond b (Some x) rest ≡ Some (get_or (x ∷ xs) (cond (not b) (1 + n) 0) d)
+found_step true x n xs d rest h lt = refl
+found_step false x n xs d rest h lt =
+    let e : 1 + n ≡ suc n = omega arith in
+    rw e (h (omega arith))
+
+found_first : {X : Type 0} (p : X → Bool) (xs : List X) (d : X) → position_or_len p xs < length xs → find p xs ≡ Some (get_or xs (position_or_len p xs) d)
+found_first p [] d lt = absurd (omega arith)
+found_first p (x ∷ xs) d lt = found_step (p x) x (position_or_len p xs) xs d (find p xs) (found_first p xs d) lt
+
+-- the first place that passes, and the element there
+pub found_at : {X : Type 0} (p : X → Bool) (xs : List X) (i : ℕ) (d : X) → position p xs ≡ Some i → find p xs ≡ Some (get_or xs i d)
+found_at p xs i d e =
+    let n = (cond_some (ltb (position_or_len p xs) (length xs)) (position_or_len p xs) i e).1 in
+    rw (← n) (found_first p xs d (ltb-true _ _ (cond_some (ltb (position_or_len p xs) (length xs)) (position_or_len p xs) i e).0))
+
+pub place_of : {X : Type 0} (p : X → Bool) (xs : List X) (i : ℕ) → position p xs ≡ Some i → position_or_len p xs ≡ i
+place_of p xs i e = (cond_some (ltb (position_or_len p xs) (length xs)) (position_or_len p xs) i e).1
+
+found_case : {X : Type 0} (b : Bool) (x : X) (o q r : Option X) → r ≡ option_or o q → cond b (Some x) r ≡ option_or (cond b (Some x) o) q
+found_case true x o q r e = refl
+found_case false x o q r e = e
+
+pub find-append : {X : Type 0} (p : X → Bool) (xs ys : List X) → find p (xs ++ ys) ≡ option_or (find p xs) (find p ys)
+find-append p [] ys = refl
+find-append p (x ∷ xs) ys = found_case (p x) x (find p xs) (find p ys) (find p (xs ++ ys)) (find-append p xs ys)
+
+-- the first in a list of lists, one list more
+pub find_flat_map_drop : {X Y : Type 0} (p : Y → Bool) (f : X → List Y) (xs : List X) (i : ℕ) (d : X) → i < length xs → find p (flat_map f (drop i xs)) ≡ option_or (find p (f (get_or xs i d))) (find p (flat_map f (drop (i + 1) xs)))
+find_flat_map_drop p f xs i d lt = rw (drop_more xs i d lt) (find-append p (f (get_or xs i d)) (flat_map f (drop (i + 1) xs)))

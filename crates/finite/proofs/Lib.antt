@@ -1,0 +1,4 @@
+pub mod Filtered
+pub mod Finding
+pub mod OneList
+pub mod Searching

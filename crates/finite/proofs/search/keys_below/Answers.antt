@@ -1,0 +1,16 @@
+use Rattle.std.proofs.Common.{ltb, ltb-true, rules}
+use Rattle.std.proofs.lemmas.Bool.{ltb-false}
+use Rattle.std.proofs.lemmas.List.Sorted.{IsPartitionPoint-from_clause, IsPartitionedBy-ltb}
+use Rattle.finite.proofs.search.keys_below.Goals as goal
+
+pub returns-clause-below : goal.returns-clause-below
+returns-clause-below g c =
+    let parted = IsPartitionedBy-ltb g.T.Keyed.key c.args.items.now c.args.key c.requires in
+    let point = IsPartitionPoint-from_clause (λ x. ltb (g.T.Keyed.key x) c.args.key) _ _ c.partition_point.ensures.partitioned parted (λ a r q k. search rules) in
+    λ k d h lt. ltb-true _ _ (point.0 k d h lt)
+
+pub returns-clause-others : goal.returns-clause-others
+returns-clause-others g c =
+    let parted = IsPartitionedBy-ltb g.T.Keyed.key c.args.items.now c.args.key c.requires in
+    let point = IsPartitionPoint-from_clause (λ x. ltb (g.T.Keyed.key x) c.args.key) _ _ c.partition_point.ensures.partitioned parted (λ a r q k. search rules) in
+    λ k d h lt. ltb-false _ _ (point.1 k d h lt)

@@ -1,0 +1,5 @@
+//! Lists of the members of a set, searches in them, and the lemmas on lists that several crates need.
+#![tactic(auto)]
+
+pub mod lists;
+pub mod search;
