@@ -1,9 +1,11 @@
 -- The first element that passes a test.
-use Rattle.std.proofs.Common.{◌≡◌, ℕ, zero, suc, ◌+◌, ◌<◌, ◌≤◌, Bool, true, false, cond, List, [], ◌∷◌, ◌++◌, length, take, drop, get_or, Option, Some, None, refl, sym, ap, ltb, arith}
-use Rattle.std.specs.Prelude.{not}
+use Rattle.std.proofs.Common.{◌≡◌, ℕ, zero, suc, ◌+◌, ◌<◌, ◌≤◌, Bool, true, false, cond, List, [], ◌∷◌, ◌++◌, length, take, drop, get_or, Option, Some, None, refl, sym, ap, ltb, ◌∙◌, arith}
+use Rattle.std.specs.Prelude.{not, ◌||◌, is_some, IfSome}
+use Rattle.std.proofs.lemmas.List.Quantifiers.{position-Some}
 use Rattle.std.specs.List.{find, flat_map, position, list_any, position_or_len, before_first}
 use Rattle.std.specs.Option.{option_map, option_or}
-use Rattle.std.proofs.lemmas.Bool.{ltb-false, ltb-true}
+use Rattle.std.proofs.lemmas.Bool.{ltb-false, ltb-true, lt-ltb}
+use Rattle.std.proofs.lemmas.Bool.Decides.{nat_tests}
 use Rattle.std.proofs.lemmas.Option.{cond_some}
 use Rattle.std.proofs.lemmas.List.{drop_more, take_all}
 use Rattle.std.proofs.lemmas.List.Folds.{list_any_at}
@@ -68,3 +70,46 @@ find-append p (x ∷ xs) ys = found_case (p x) x (find p xs) (find p ys) (find p
 -- the first in a list of lists, one list more
 pub find_flat_map_drop : {X Y : Type 0} (p : Y → Bool) (f : X → List Y) (xs : List X) (i : ℕ) (d : X) → i < length xs → find p (flat_map f (drop i xs)) ≡ option_or (find p (f (get_or xs i d))) (find p (flat_map f (drop (i + 1) xs)))
 find_flat_map_drop p f xs i d lt = rw (drop_more xs i d lt) (find-append p (f (get_or xs i d)) (flat_map f (drop (i + 1) xs)))
+
+any_step : (b : Bool) (n l : ℕ) (r : Bool) → r ≡ ltb n l → (b || r) ≡ ltb (cond (not b) (1 + n) 0) (suc l)
+any_step true n l r e = sym (lt-ltb 0 (suc l) (omega arith))
+any_step false n l r e = grind (arith, nat_tests)
+
+-- some element passes where there is a first one
+pub any_first : {X : Type 0} (p : X → Bool) (xs : List X) → list_any p xs ≡ ltb (position_or_len p xs) (length xs)
+any_first p [] = refl
+any_first p (x ∷ xs) = any_step (p x) (position_or_len p xs) (length xs) (list_any p xs) (any_first p xs)
+
+some_cond : (b : Bool) (n : ℕ) (o : Option ℕ) → o ≡ cond b (Some n) None → is_some o ≡ b
+some_cond true n o e = ap is_some e
+some_cond false n o e = ap is_some e
+
+pub any_position : {X : Type 0} (p : X → Bool) (xs : List X) (o : Option ℕ) → o ≡ position p xs → is_some o ≡ list_any p xs
+any_position p xs o e = some_cond (ltb (position_or_len p xs) (length xs)) (position_or_len p xs) o e ∙ sym (any_first p xs)
+
+pub nowhere_any : {X : Type 0} (p : X → Bool) (xs : List X) → position p xs ≡ None → list_any p xs ≡ false
+nowhere_any p xs e = sym (any_position p xs None (sym e))
+
+find_step : {X : Type 0} (b : Bool) (x : X) (r : Bool) (o : Option X) → r ≡ is_some o → (b || r) ≡ is_some (cond b (Some x) o)
+find_step true x r o e = refl
+find_step false x r o e = e
+
+pub any_find : {X : Type 0} (p : X → Bool) (xs : List X) → list_any p xs ≡ is_some (find p xs)
+any_find p [] = refl
+any_find p (x ∷ xs) = find_step (p x) x (list_any p xs) (find p xs) (any_find p xs)
+
+none_of : {X : Type 0} (o : Option X) → is_some o ≡ false → o ≡ None
+none_of None e = refl
+none_of (Some x) e = absurd cc
+
+pub find_nowhere : {X : Type 0} (p : X → Bool) (xs : List X) → position p xs ≡ None → find p xs ≡ None
+find_nowhere p xs e = none_of (find p xs) (sym (any_find p xs) ∙ nowhere_any p xs e)
+
+pub list_any_same : {X : Type 0} (p q : X → Bool) (xs : List X) → ((x : X) → p x ≡ q x) → list_any p xs ≡ list_any q xs
+list_any_same p q [] h = refl
+list_any_same p q (x ∷ xs) h = rw (h x, list_any_same p q xs h) refl
+
+-- the element at the first place passes
+pub position_holds : {X : Type 0} (p : X → Bool) (xs : List X) (o : Option ℕ) → o ≡ position p xs → IfSome o (λ i. (d : X) → p (get_or xs i d) ≡ true)
+position_holds p xs None e = tt
+position_holds p xs (Some i) e = λ d. (position-Some p xs i d (sym e)).1

@@ -1,9 +1,9 @@
 -- A search by a key that rises.
-use Rattle.std.proofs.Common.{◌≡◌, ◌≢◌, ℕ, ◌<◌, ◌≤◌, Bool, false, eqb, List, [], ◌∷◌, length, get_or, Some, None, refl, inl, inr, arith}
-use Rattle.std.specs.Prelude.{◌==◌}
-use Rattle.std.specs.List.{AllPairs, AllWithin, position, position_or_len}
+use Rattle.std.proofs.Common.{◌≡◌, ◌≢◌, ℕ, ◌<◌, ◌≤◌, ◌+◌, ◌-◌, Bool, false, eqb, leb, ltb, List, [], ◌∷◌, length, get_or, Some, None, refl, inl, inr, arith}
+use Rattle.std.specs.Prelude.{◌==◌, ◌&&◌}
+use Rattle.std.specs.List.{All, AllPairs, AllWithin, position, position_or_len}
 use Rattle.std.specs.List.Sorted.{IsNonDecreasingBy}
-use Rattle.std.proofs.lemmas.Bool.{lt-ltb, le-ltb, cases_order, ne_eqb, eq-eqb}
+use Rattle.std.proofs.lemmas.Bool.{lt-ltb, le-ltb, lt-leb, le-leb, and_left, and_right, and_from, cases_lt, cases_order, ne_eqb, eq-eqb}
 use Rattle.std.proofs.lemmas.List.Sums.{position_or_len_is}
 
 pub rises : {X : Type 0} (key : X → ℕ) (xs : List X) → AllPairs (λ x y. key x < key y) xs → IsNonDecreasingBy key xs
@@ -43,3 +43,48 @@ miss key [] a i up below others gone = refl
 miss key (x ∷ xs) a i up below others gone =
     let fails : (k : ℕ) → k < length (x ∷ xs) → eqb (key (get_or (x ∷ xs) k x)) a ≡ false = λ k h. ne_eqb _ _ (apart key (x ∷ xs) a i k x up below others (gone x) h) in
     nowhere (λ x. key x == a) (x ∷ xs) (position_or_len_is (λ x. key x == a) (x ∷ xs) (length (x ∷ xs)) x (omega arith) fails (λ h. absurd (omega arith)))
+
+-- ranges that lie apart start in order
+pub starts_rise : {X : Type 0} (key end : X → ℕ) (xs : List X) → All (λ x. key x ≤ end x) xs → AllPairs (λ x y. end x ≤ key y) xs → IsNonDecreasingBy key xs
+starts_rise key end xs ordered sep i j d le lt =
+    elim (cases_order i j) [
+      | inl same ↦ rw same (omega arith)
+      | inr (inl below) ↦ (let h = sep i j d below lt in let o = ordered i d (omega arith) in omega arith)
+      | inr (inr past) ↦ absurd (omega arith)
+    ]
+
+-- from the key up to the end
+abbrev pub spans : {X : Type 0} (key end : X → ℕ) → ℕ → X → Bool
+spans key end a x = leb (key x) a && ltb a (end x)
+
+-- the last that starts in time covers the number
+pub covered : {X : Type 0} (key end : X → ℕ) (xs : List X) (a i : ℕ) (d : X) → AllPairs (λ x y. end x ≤ key y) xs → i < length xs → key (get_or xs i d) ≤ a → a < end (get_or xs i d) → position (spans key end a) xs ≡ Some i
+covered key end xs a i d sep lt from to =
+    let before : (k : ℕ) → k < i → spans key end a (get_or xs k d) ≡ false = λ k h. (let e = sep k i d h lt in and_right _ _ (le-ltb a (end (get_or xs k d)) (omega arith))) in
+    at_place (spans key end a) xs i (position_or_len_is (spans key end a) xs i d (omega arith) before (λ h. and_from _ _ (le-leb _ _ from) (lt-ltb _ _ to))) lt
+
+uncovered_at : {X : Type 0} (key end : X → ℕ) (xs : List X) (a n k : ℕ) (d : X) → AllPairs (λ x y. end x ≤ key y) xs → All (λ x. key x ≤ end x) xs → AllWithin (λ x. a < key x) xs n (length xs) → n ≤ length xs → (0 < n → end (get_or xs (n - 1) d) ≤ a) → k < length xs → spans key end a (get_or xs k d) ≡ false
+uncovered_at key end xs a n k d sep ordered past le last lt =
+    elim (cases_lt k n) [
+      | inl before ↦ (
+          let l : end (get_or xs (n - 1) d) ≤ a = last (omega arith) in
+          elim (cases_lt k (n - 1)) [
+            | inl early ↦ (
+                let within : n - 1 < length xs = omega (arith, le, before) in
+                let e : end (get_or xs k d) ≤ key (get_or xs (n - 1) d) = sep k (n - 1) d early within in
+                let o : key (get_or xs (n - 1) d) ≤ end (get_or xs (n - 1) d) = ordered (n - 1) d within in
+                and_right _ _ (le-ltb a (end (get_or xs k d)) (omega (arith, e, o, l))))
+            | inr late ↦ (
+                let same : n - 1 ≡ k = omega (arith, before, late) in
+                let h : end (get_or xs k d) ≤ a = rw (← same) l in
+                and_right _ _ (le-ltb a (end (get_or xs k d)) h))
+          ])
+      | inr after ↦ (let p = past k d after lt in and_left _ _ (lt-leb (key (get_or xs k d)) a p))
+    ]
+
+-- no element covers the number
+pub uncovered : {X : Type 0} (key end : X → ℕ) (xs : List X) (a n : ℕ) → AllPairs (λ x y. end x ≤ key y) xs → All (λ x. key x ≤ end x) xs → AllWithin (λ x. a < key x) xs n (length xs) → n ≤ length xs → ((d : X) → 0 < n → end (get_or xs (n - 1) d) ≤ a) → position (spans key end a) xs ≡ None
+uncovered key end [] a n sep ordered past le last = refl
+uncovered key end (x ∷ xs) a n sep ordered past le last =
+    let fails : (k : ℕ) → k < length (x ∷ xs) → spans key end a (get_or (x ∷ xs) k x) ≡ false = λ k h. uncovered_at key end (x ∷ xs) a n k x sep ordered past le (last x) h in
+    nowhere (spans key end a) (x ∷ xs) (position_or_len_is (spans key end a) (x ∷ xs) (length (x ∷ xs)) x (omega arith) fails (λ h. absurd (omega arith)))

@@ -1,4 +1,4 @@
-ghost use Rattle.std.specs.Prelude.{◌≡◌, ℕ, ◌<◌, ◌≤◌, ◌==◌, length, AllPairs, position, IfSome};
+ghost use Rattle.std.specs.Prelude.{◌≡◌, ℕ, ◌<◌, ◌≤◌, ◌^◌, ◌==◌, ◌&&◌, nat_le, nat_lt, length, All, AllPairs, position, IfSome};
 ghost use Rattle.std.specs.List.{AllWithin};
 ghost use Rattle.std.specs.List.Sorted.{IsNonDecreasingBy};
 
@@ -41,6 +41,34 @@ pub fn place_of<T: Keyed>(items: &[T], key: u64) -> Option<usize>
         return None;
     }
     if items[i].key() != key {
+        return None;
+    }
+    Some(i)
+}
+
+/// What reaches from its key up to an end.
+pub trait Spanned: Keyed {
+    ghost end: { Self → ℕ };
+
+    fn end(&self) -> u64
+        requires { end self.now < 2 ^ 64 }
+        ensures { result ≡ end self.now };
+}
+
+/// The place of the element that covers a number, by a binary search.
+pub fn place_covering<T: Spanned>(items: &[T], at: u64) -> Option<usize>
+    requires ordered { All (λ x. T.key x ≤ T.end x) items.now }
+    requires fits { All (λ x. T.end x < 2 ^ 64) items.now }
+    requires apart { AllPairs (λ x y. T.end x ≤ T.key y) items.now }
+    ensures place { result ≡ position (λ x. nat_le (T.key x) at && nat_lt at (T.end x)) items.now }
+    ensures within { IfSome result (λ i. i < length items.now) }
+{
+    let n = keys_up_to(items, at);
+    if n == 0 {
+        return None;
+    }
+    let i = n - 1;
+    if at >= items[i].end() {
         return None;
     }
     Some(i)

@@ -1,0 +1,5 @@
+pub mod Built
+pub mod Functions
+pub mod Named
+pub mod Regions
+pub mod Sections
