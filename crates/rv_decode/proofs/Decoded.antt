@@ -1,10 +1,10 @@
 -- The list of all rows gives what Reads says.
 use Rattle.std.proofs.Common.{◌≡◌, ℕ, List, [], ◌∷◌, Bool, true, false, ◌==◌, ◌&&◌, Option, Some, None, refl, sym, ◌∙◌, IfSome, cond, rules, subst, if◌then◌else◌}
 use Rattle.std.specs.Option.{option_map, option_and_then}
-use Rattle.rv_isa.specs.Rows.{Field, Has, alu_row, imm_row, shift_row, branch_row, load_row, amo_row, lr_row, sc_row}
-use Rattle.rv_isa.specs.Reads.{Reads, width_row, amount_of, order_of}
-use Rattle.rv_isa.specs.Word.{rd_of, rs1_of, rs2_of, imm_i, imm_b}
-use Rattle.rv_isa.specs.Decoded.{has, row_in, where_has, where_is, first_of, readings, decoded, alu_ops, imm_ops, shift_ops, conditions, load_widths, amo_ops}
+use Rattle.rv_isa.specs.Rows.{Field, Has, alu_row, imm_row, shift_row, branch_row, load_row, store_row, amo_row, lr_row, sc_row}
+use Rattle.rv_isa.specs.Instr.{IsStoreWidth}
+use Rattle.rv_isa.specs.Reads.{Reads, width_row}
+use Rattle.rv_isa.specs.Decoded.{has, row_in, where_has, where_is, first_of, readings, decoded, alu_ops, imm_ops, shift_ops, conditions, load_widths, store_widths, widths, amo_ops}
 use Rattle.rv_isa.specs.declared.instr.AluOp.{AluOp}
 use Rattle.rv_isa.specs.declared.instr.AluOp.TheVariants as alu
 use Rattle.rv_isa.specs.declared.instr.ImmOp.{ImmOp}
@@ -53,10 +53,16 @@ unfolding row_in
 row-Some w row [] op e = cc
 row-Some w row (x ∷ xs) op e = pick-Some (λ op. Has w (row op)) (has w (row x)) x op (row_in w row xs) (has-Has w (row x)) (row-Some w row xs op) e
 
--- each in the list
+-- P holds of each in the list
 abbrev AllOf : {A : Type 0} → (A → Type 0) → List A → Type 0
 AllOf P [] = Unit {0}
 AllOf P (x ∷ xs) = P x × AllOf P xs
+
+-- what holds of all in the list holds of the one that is found
+row-All : {A : Type 0} (w : ℕ) (row : A → List Field) (ops : List A) (P : A → Type 0) (op : A) → AllOf P ops → row_in w row ops ≡ Some op → P op
+unfolding row_in
+row-All w row [] P op h e = cc
+row-All w row (x ∷ xs) P op h e = pick-Some P (has w (row x)) x op (row_in w row xs) (λ t. h.0) (λ k. row-All w row xs P op h.1 k) e
 
 -- and where none is found no row of the list has them
 row-None : {A : Type 0} (w : ℕ) (row : A → List Field) (ops : List A) → row_in w row ops ≡ None → AllOf (λ op. Has w (row op) → ⊥) ops
@@ -66,81 +72,37 @@ row-None w row (x ∷ xs) e =
     let none = pick-None (has w (row x)) x (row_in w row xs) e in
     (λ h. none.0 (Has-has w (row x) h), row-None w row xs none.1)
 
--- every operation stands in its list
+-- every operation stands in its list; the line with _ is checked for each
 each_alu : (P : AluOp → Type 0) → AllOf P alu_ops → (op : AluOp) → P op
-each_alu P h alu.Add = h.0
-each_alu P h alu.Sub = h.1.0
-each_alu P h alu.Sll = h.1.1.0
-each_alu P h alu.Slt = h.1.1.1.0
-each_alu P h alu.Sltu = h.1.1.1.1.0
-each_alu P h alu.Xor = h.1.1.1.1.1.0
-each_alu P h alu.Srl = h.1.1.1.1.1.1.0
-each_alu P h alu.Sra = h.1.1.1.1.1.1.1.0
-each_alu P h alu.Or = h.1.1.1.1.1.1.1.1.0
-each_alu P h alu.And = h.1.1.1.1.1.1.1.1.1.0
-each_alu P h alu.Mul = h.1.1.1.1.1.1.1.1.1.1.0
-each_alu P h alu.Mulh = h.1.1.1.1.1.1.1.1.1.1.1.0
-each_alu P h alu.Mulhsu = h.1.1.1.1.1.1.1.1.1.1.1.1.0
-each_alu P h alu.Mulhu = h.1.1.1.1.1.1.1.1.1.1.1.1.1.0
-each_alu P h alu.Div = h.1.1.1.1.1.1.1.1.1.1.1.1.1.1.0
-each_alu P h alu.Divu = h.1.1.1.1.1.1.1.1.1.1.1.1.1.1.1.0
-each_alu P h alu.Rem = h.1.1.1.1.1.1.1.1.1.1.1.1.1.1.1.1.0
-each_alu P h alu.Remu = h.1.1.1.1.1.1.1.1.1.1.1.1.1.1.1.1.1.0
-each_alu P h alu.Addw = h.1.1.1.1.1.1.1.1.1.1.1.1.1.1.1.1.1.1.0
-each_alu P h alu.Subw = h.1.1.1.1.1.1.1.1.1.1.1.1.1.1.1.1.1.1.1.0
-each_alu P h alu.Sllw = h.1.1.1.1.1.1.1.1.1.1.1.1.1.1.1.1.1.1.1.1.0
-each_alu P h alu.Srlw = h.1.1.1.1.1.1.1.1.1.1.1.1.1.1.1.1.1.1.1.1.1.0
-each_alu P h alu.Sraw = h.1.1.1.1.1.1.1.1.1.1.1.1.1.1.1.1.1.1.1.1.1.1.0
-each_alu P h alu.Mulw = h.1.1.1.1.1.1.1.1.1.1.1.1.1.1.1.1.1.1.1.1.1.1.1.0
-each_alu P h alu.Divw = h.1.1.1.1.1.1.1.1.1.1.1.1.1.1.1.1.1.1.1.1.1.1.1.1.0
-each_alu P h alu.Divuw = h.1.1.1.1.1.1.1.1.1.1.1.1.1.1.1.1.1.1.1.1.1.1.1.1.1.0
-each_alu P h alu.Remw = h.1.1.1.1.1.1.1.1.1.1.1.1.1.1.1.1.1.1.1.1.1.1.1.1.1.1.0
-each_alu P h alu.Remuw = h.1.1.1.1.1.1.1.1.1.1.1.1.1.1.1.1.1.1.1.1.1.1.1.1.1.1.1.0
+each_alu P h alu.Add = search rules
+each_alu P h _ = search rules
 
 each_imm : (P : ImmOp → Type 0) → AllOf P imm_ops → (op : ImmOp) → P op
-each_imm P h imm.Addi = h.0
-each_imm P h imm.Slti = h.1.0
-each_imm P h imm.Sltiu = h.1.1.0
-each_imm P h imm.Xori = h.1.1.1.0
-each_imm P h imm.Ori = h.1.1.1.1.0
-each_imm P h imm.Andi = h.1.1.1.1.1.0
-each_imm P h imm.Addiw = h.1.1.1.1.1.1.0
+each_imm P h imm.Addi = search rules
+each_imm P h _ = search rules
 
 each_shift : (P : ShiftOp → Type 0) → AllOf P shift_ops → (op : ShiftOp) → P op
-each_shift P h shift.Slli = h.0
-each_shift P h shift.Srli = h.1.0
-each_shift P h shift.Srai = h.1.1.0
-each_shift P h shift.Slliw = h.1.1.1.0
-each_shift P h shift.Srliw = h.1.1.1.1.0
-each_shift P h shift.Sraiw = h.1.1.1.1.1.0
+each_shift P h shift.Slli = search rules
+each_shift P h _ = search rules
 
 each_condition : (P : Cond → Type 0) → AllOf P conditions → (op : Cond) → P op
-each_condition P h cond.Eq = h.0
-each_condition P h cond.Ne = h.1.0
-each_condition P h cond.Lt = h.1.1.0
-each_condition P h cond.Ge = h.1.1.1.0
-each_condition P h cond.Ltu = h.1.1.1.1.0
-each_condition P h cond.Geu = h.1.1.1.1.1.0
+each_condition P h cond.Eq = search rules
+each_condition P h _ = search rules
 
 each_load : (P : Width → Type 0) → AllOf P load_widths → (op : Width) → P op
-each_load P h width.B = h.0
-each_load P h width.H = h.1.0
-each_load P h width.W = h.1.1.0
-each_load P h width.D = h.1.1.1.0
-each_load P h width.Bu = h.1.1.1.1.0
-each_load P h width.Hu = h.1.1.1.1.1.0
-each_load P h width.Wu = h.1.1.1.1.1.1.0
+each_load P h width.B = search rules
+each_load P h _ = search rules
 
 each_amo : (P : AmoOp → Type 0) → AllOf P amo_ops → (op : AmoOp) → P op
-each_amo P h amo.Swap = h.0
-each_amo P h amo.Add = h.1.0
-each_amo P h amo.Xor = h.1.1.0
-each_amo P h amo.And = h.1.1.1.0
-each_amo P h amo.Or = h.1.1.1.1.0
-each_amo P h amo.Min = h.1.1.1.1.1.0
-each_amo P h amo.Max = h.1.1.1.1.1.1.0
-each_amo P h amo.Minu = h.1.1.1.1.1.1.1.0
-each_amo P h amo.Maxu = h.1.1.1.1.1.1.1.1.0
+each_amo P h amo.Swap = search rules
+each_amo P h _ = search rules
+
+each_store : (P : Width → Type 0) → AllOf P store_widths → (op : Width) → IsStoreWidth op → P op
+each_store P h width.B s = search rules
+each_store P h width.H s = search rules
+each_store P h width.W s = search rules
+each_store P h width.D s = search rules
+each_store P h _ s = absurd s
 
 -- the first that stands passes what all pass, and where there is none nothing stands
 first-Some : (P : Instr → Type 0) (os : List (Option Instr)) (j : Instr) → AllOf (λ o. IfSome o P) os → first_of os ≡ Some j → P j
@@ -201,79 +163,50 @@ where_is-None w word i e h = if-None (w == word) i e (eq_eqb h)
     eq_eqb : w ≡ word → (w == word) ≡ true
     eq_eqb t = search rules
 
+-- a fact of the first of a list, and of the others
+infixr 2 ◌&◌
+◌&◌ : {A B : Type 0} → A → B → A × B
+a & b = (a, b)
+
 -- whatever a class gives is read
+row-Reads : {A : Type 0} (w : ℕ) (row : A → List Field) (ops : List A) (f : A → Instr) → ((op : A) → Has w (row op) → Reads w (f op)) → IfSome (option_map f (row_in w row ops)) (Reads w)
+row-Reads w row ops f h = IfSome-map (Reads w) f (row_in w row ops) (λ op e. h op (row-Some w row ops op e))
+
+wide-Reads : (w : ℕ) (f : Bool → Option Instr) → ((wide : Bool) → Has w (width_row wide) → IfSome (f wide) (Reads w)) → IfSome (option_and_then f (row_in w width_row widths)) (Reads w)
+wide-Reads w f h = IfSome-then (Reads w) f (row_in w width_row widths) (λ wide e. h wide (row-Some w width_row widths wide e))
+
 sound : (w : ℕ) → AllOf (λ o. IfSome o (Reads w)) (readings w)
 unfolding readings Reads
-sound w = (
-  IfSome-map (Reads w) (λ op. Alu op (rd_of w) (rs1_of w) (rs2_of w)) (row_in w alu_row alu_ops) (λ op e. (row-Some w alu_row alu_ops op e, refl, refl, refl)),
-  (
-    IfSome-map (Reads w) (λ op. AluImm op (rd_of w) (rs1_of w) (imm_i w)) (row_in w imm_row imm_ops) (λ op e. (row-Some w imm_row imm_ops op e, refl, refl, refl)),
-    (
-      IfSome-map (Reads w) (λ op. ShiftImm op (rd_of w) (rs1_of w) (amount_of op w)) (row_in w shift_row shift_ops) (λ op e. (row-Some w shift_row shift_ops op e, refl, refl, refl)),
-      (
-        where_has-Some w _ _ (Reads w) (λ h. (h, refl, refl)),
-        (
-          where_has-Some w _ _ (Reads w) (λ h. (h, refl, refl)),
-          (
-            where_has-Some w _ _ (Reads w) (λ h. (h, refl, refl)),
-            (
-              where_has-Some w _ _ (Reads w) (λ h. (h, refl, refl, refl)),
-              (
-                IfSome-map (Reads w) (λ c. Branch c (rs1_of w) (rs2_of w) (imm_b w)) (row_in w branch_row conditions) (λ c e. (row-Some w branch_row conditions c e, refl, refl, refl)),
-                (
-                  IfSome-map (Reads w) (λ width. Load width (rd_of w) (rs1_of w) (imm_i w)) (row_in w load_row load_widths) (λ width e. (row-Some w load_row load_widths width e, refl, refl, refl)),
-                  (
-                    where_has-Some w _ _ (Reads w) (λ h. (h, refl, refl, refl)),
-                    (
-                      where_has-Some w _ _ (Reads w) (λ h. (h, refl, refl, refl)),
-                      (
-                        where_has-Some w _ _ (Reads w) (λ h. (h, refl, refl, refl)),
-                        (
-                          where_has-Some w _ _ (Reads w) (λ h. (h, refl, refl, refl)),
-                          (
-                            IfSome-then (Reads w) (λ wide. where_has w lr_row (Lr wide (order_of w) (rd_of w) (rs1_of w))) (row_in w width_row (true ∷ false ∷ [])) (λ wide e. where_has-Some w lr_row _ (Reads w) (λ h. (h, row-Some w width_row (true ∷ false ∷ []) wide e, refl, refl, refl))),
-                            (
-                              IfSome-then (Reads w) (λ wide. where_has w sc_row (Sc wide (order_of w) (rd_of w) (rs1_of w) (rs2_of w))) (row_in w width_row (true ∷ false ∷ [])) (λ wide e. where_has-Some w sc_row _ (Reads w) (λ h. (h, row-Some w width_row (true ∷ false ∷ []) wide e, refl, refl, refl, refl))),
-                              (
-                                IfSome-then (Reads w) (λ wide. option_map (λ op. Amo op wide (order_of w) (rd_of w) (rs1_of w) (rs2_of w)) (row_in w amo_row amo_ops)) (row_in w width_row (true ∷ false ∷ [])) (λ wide e. IfSome-map (Reads w) (λ op. Amo op wide (order_of w) (rd_of w) (rs1_of w) (rs2_of w)) (row_in w amo_row amo_ops) (λ op k. (row-Some w amo_row amo_ops op k, row-Some w width_row (true ∷ false ∷ []) wide e, refl, refl, refl, refl))),
-                                (
-                                  where_has-Some w _ _ (Reads w) (λ h. (h, refl, refl, refl)),
-                                  (
-                                    where_is-Some w _ _ (Reads w) (λ e. e),
-                                    (
-                                      where_is-Some w _ _ (Reads w) (λ e. e),
-                                      tt,
-                                    ),
-                                  ),
-                                ),
-                              ),
-                            ),
-                          ),
-                        ),
-                      ),
-                    ),
-                  ),
-                ),
-              ),
-            ),
-          ),
-        ),
-      ),
-    ),
-  ),
-)
+sound w =
+    row-Reads w alu_row alu_ops _ (λ op h. (h, refl, refl, refl))
+    & row-Reads w imm_row imm_ops _ (λ op h. (h, refl, refl, refl))
+    & row-Reads w shift_row shift_ops _ (λ op h. (h, refl, refl, refl))
+    & where_has-Some w _ _ (Reads w) (λ h. (h, refl, refl))
+    & where_has-Some w _ _ (Reads w) (λ h. (h, refl, refl))
+    & where_has-Some w _ _ (Reads w) (λ h. (h, refl, refl))
+    & where_has-Some w _ _ (Reads w) (λ h. (h, refl, refl, refl))
+    & row-Reads w branch_row conditions _ (λ c h. (h, refl, refl, refl))
+    & row-Reads w load_row load_widths _ (λ width h. (h, refl, refl, refl))
+    & IfSome-map (Reads w) _ (row_in w store_row store_widths) (λ width e. (row-All w store_row store_widths IsStoreWidth width (tt & tt & tt & tt & tt) e, row-Some w store_row store_widths width e, refl, refl, refl))
+    & wide-Reads w _ (λ wide k. where_has-Some w lr_row _ (Reads w) (λ h. (h, k, refl, refl, refl)))
+    & wide-Reads w _ (λ wide k. where_has-Some w sc_row _ (Reads w) (λ h. (h, k, refl, refl, refl, refl)))
+    & wide-Reads w _ (λ wide k. row-Reads w amo_row amo_ops _ (λ op h. (h, k, refl, refl, refl, refl)))
+    & where_has-Some w _ _ (Reads w) (λ h. (h, refl, refl, refl))
+    & where_is-Some w _ _ (Reads w) (λ e. e)
+    & where_is-Some w _ _ (Reads w) (λ e. e)
+    & tt
 
 -- a word with the fields of a width is given by some width
-wide-None : (w : ℕ) (f : Bool → Option Instr) (wide : Bool) → Has w (width_row wide) → option_and_then f (row_in w width_row (true ∷ false ∷ [])) ≡ None → (x : Bool) × (f x ≡ None)
-wide-None w f wide g e = by_cases (row_in w width_row (true ∷ false ∷ [])) refl
+wide-None : (w : ℕ) (f : Bool → Option Instr) (wide : Bool) → Has w (width_row wide) → option_and_then f (row_in w width_row widths) ≡ None → (x : Bool) × (f x ≡ None)
+wide-None w f wide g e = by_cases (row_in w width_row widths) refl
   where
-    fails : (b : Bool) → AllOf (λ b. Has w (width_row b) → ⊥) (true ∷ false ∷ []) → Has w (width_row b) → ⊥
+    fails : (b : Bool) → AllOf (λ b. Has w (width_row b) → ⊥) widths → Has w (width_row b) → ⊥
     fails true h = h.0
     fails false h = h.1.0
 
-    by_cases : (o : Option Bool) → row_in w width_row (true ∷ false ∷ []) ≡ o → (x : Bool) × (f x ≡ None)
-    by_cases None k = absurd (fails wide (row-None w width_row (true ∷ false ∷ []) k) g)
-    by_cases (Some x) k = (x, then-None f (row_in w width_row (true ∷ false ∷ [])) x e k)
+    by_cases : (o : Option Bool) → row_in w width_row widths ≡ o → (x : Bool) × (f x ≡ None)
+    by_cases None k = absurd (fails wide (row-None w width_row widths k) g)
+    by_cases (Some x) k = (x, then-None f (row_in w width_row widths) x e k)
 
 -- and whatever is read is given by its class
 complete : (w : ℕ) (i : Instr) → AllOf (λ o. o ≡ None) (readings w) → Reads w i → ⊥
@@ -287,18 +220,14 @@ complete w (Jal rd off) h g = where_has-None w _ _ h.1.1.1.1.1.0 g.0
 complete w (Jalr rd rs1 off) h g = where_has-None w _ _ h.1.1.1.1.1.1.0 g.0
 complete w (Branch c rs1 rs2 off) h g = each_condition (λ op. Has w (branch_row op) → ⊥) (row-None w branch_row conditions (map-None _ _ h.1.1.1.1.1.1.1.0)) c g.0
 complete w (Load width rd rs1 off) h g = each_load (λ op. Has w (load_row op) → ⊥) (row-None w load_row load_widths (map-None _ _ h.1.1.1.1.1.1.1.1.0)) width g.0
-complete w (Store width.B rs2 rs1 off) h g = where_has-None w _ _ h.1.1.1.1.1.1.1.1.1.0 g.0
-complete w (Store width.H rs2 rs1 off) h g = where_has-None w _ _ h.1.1.1.1.1.1.1.1.1.1.0 g.0
-complete w (Store width.W rs2 rs1 off) h g = where_has-None w _ _ h.1.1.1.1.1.1.1.1.1.1.1.0 g.0
-complete w (Store width.D rs2 rs1 off) h g = where_has-None w _ _ h.1.1.1.1.1.1.1.1.1.1.1.1.0 g.0
-complete w (Store _ rs2 rs1 off) h g = g.0
-complete w (Lr wide order rd rs1) h g = where_has-None w lr_row _ (wide-None w _ wide g.1 h.1.1.1.1.1.1.1.1.1.1.1.1.1.0).1 g.0
-complete w (Sc wide order rd rs1 rs2) h g = where_has-None w sc_row _ (wide-None w _ wide g.1 h.1.1.1.1.1.1.1.1.1.1.1.1.1.1.0).1 g.0
+complete w (Store width rs2 rs1 off) h g = each_store (λ op. Has w (store_row op) → ⊥) (row-None w store_row store_widths (map-None _ _ h.1.1.1.1.1.1.1.1.1.0)) width g.0 g.1
+complete w (Lr wide order rd rs1) h g = where_has-None w lr_row _ (wide-None w _ wide g.1 h.1.1.1.1.1.1.1.1.1.1.0).1 g.0
+complete w (Sc wide order rd rs1 rs2) h g = where_has-None w sc_row _ (wide-None w _ wide g.1 h.1.1.1.1.1.1.1.1.1.1.1.0).1 g.0
 complete w (Amo op wide order rd rs1 rs2) h g =
-    each_amo (λ op. Has w (amo_row op) → ⊥) (row-None w amo_row amo_ops (map-None _ _ (wide-None w _ wide g.1 h.1.1.1.1.1.1.1.1.1.1.1.1.1.1.1.0).1)) op g.0
-complete w (Fence rd rs1 imm) h g = where_has-None w _ _ h.1.1.1.1.1.1.1.1.1.1.1.1.1.1.1.1.0 g.0
-complete w Ecall h g = where_is-None w _ _ h.1.1.1.1.1.1.1.1.1.1.1.1.1.1.1.1.1.0 g
-complete w Ebreak h g = where_is-None w _ _ h.1.1.1.1.1.1.1.1.1.1.1.1.1.1.1.1.1.1.0 g
+    each_amo (λ op. Has w (amo_row op) → ⊥) (row-None w amo_row amo_ops (map-None _ _ (wide-None w _ wide g.1 h.1.1.1.1.1.1.1.1.1.1.1.1.0).1)) op g.0
+complete w (Fence rd rs1 imm) h g = where_has-None w _ _ h.1.1.1.1.1.1.1.1.1.1.1.1.1.0 g.0
+complete w Ecall h g = where_is-None w _ _ h.1.1.1.1.1.1.1.1.1.1.1.1.1.1.0 g
+complete w Ebreak h g = where_is-None w _ _ h.1.1.1.1.1.1.1.1.1.1.1.1.1.1.1.0 g
 
 pub same_as_decoded : (w : ℕ) (r : Option Instr) → IfSome r (Reads w) → ((i : Instr) → Reads w i → r ≡ Some i) → r ≡ decoded w
 unfolding decoded

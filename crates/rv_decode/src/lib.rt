@@ -34,9 +34,10 @@ pub fn decode(w: u32) -> Option<Instr>
     instruction(w)
 }
 
-/// Says that a word reads as one instruction at most. It does nothing.
+/// Says that a word reads as one instruction at most, and that `decoded` is that one. It does nothing.
 pub fn one_reading(w: u32)
-    ensures { (i j : Instr) → Reads w i → Reads w j → i ≡ j }
+    ensures one { (i j : Instr) → Reads w i → Reads w j → i ≡ j }
+    ensures function { (i : Instr) → Reads w i ↔ (decoded w ≡ Some i) }
 {
     let _ = decode(w);
 }

@@ -1,7 +1,8 @@
 //! Which operation of a class the fixed fields of a word name.
 ghost use Rattle.std.specs.Prelude.{◌≡◌, [], ◌∷◌, IfSome};
 ghost use Rattle.rv_isa.specs.Word.{opcode, funct3, funct7};
-ghost use Rattle.rv_isa.specs.Rows.{Has, alu_row, imm_row, shift_row, branch_row, load_row, IsStore, amo_row};
+ghost use Rattle.rv_isa.specs.Instr.{IsStoreWidth};
+ghost use Rattle.rv_isa.specs.Rows.{Has, alu_row, imm_row, shift_row, branch_row, load_row, store_row, amo_row};
 ghost use Rattle.rv_isa.specs.declared.instr.AluOp.{AluOp};
 ghost use Rattle.rv_isa.specs.declared.instr.AmoOp.{AmoOp};
 ghost use Rattle.rv_isa.specs.declared.instr.Cond.{Cond};
@@ -121,8 +122,9 @@ pub fn load_width(w: u32) -> Option<Width>
 /// Of STORE.
 pub fn store_width(w: u32) -> Option<Width>
     requires { opcode w ≡ 0x23 }
-    ensures found { IfSome result (IsStore w) }
-    ensures only { (op : Width) → IsStore w op → result ≡ Some op }
+    ensures width { IfSome result IsStoreWidth }
+    ensures found { IfSome result (λ width. Has w (store_row width)) }
+    ensures only { (op : Width) → IsStoreWidth op → Has w (store_row op) → result ≡ Some op }
 {
     match funct3(w) {
         0 => Some(Width::B),

@@ -2,7 +2,8 @@
 -- Source: the RISC-V Unprivileged ISA, "RV32/64G Instruction Set Listings".
 use Rattle.std.specs.Prelude.{◌≡◌, ℕ, List, [], ◌∷◌, Bool, true, false, ◌==◌}
 use Rattle.rv_isa.specs.Word.{bits, rd_of, rs1_of, rs2_of, imm_i, imm_s, imm_b, imm_u, imm_j}
-use Rattle.rv_isa.specs.Rows.{Field, Has, f3, alu_row, imm_row, shift_row, lui_row, auipc_row, jal_row, jalr_row, branch_row, load_row, IsStore, lr_row, sc_row, amo_row, fence_row}
+use Rattle.rv_isa.specs.Rows.{Field, Has, f3, alu_row, imm_row, shift_row, lui_row, auipc_row, jal_row, jalr_row, branch_row, load_row, store_row, lr_row, sc_row, amo_row, fence_row}
+use Rattle.rv_isa.specs.Instr.{IsStoreWidth}
 use Rattle.rv_isa.specs.declared.instr.ShiftOp.{ShiftOp}
 use Rattle.rv_isa.specs.declared.instr.ShiftOp.TheVariants.{Slli, Srli, Srai}
 use Rattle.rv_isa.specs.declared.instr.Order.{Order}
@@ -36,7 +37,7 @@ Reads w (Jal rd off) = Has w jal_row × (rd ≡ rd_of w) × (off ≡ imm_j w)
 Reads w (Jalr rd rs1 off) = Has w jalr_row × (rd ≡ rd_of w) × (rs1 ≡ rs1_of w) × (off ≡ imm_i w)
 Reads w (Branch cond rs1 rs2 off) = Has w (branch_row cond) × (rs1 ≡ rs1_of w) × (rs2 ≡ rs2_of w) × (off ≡ imm_b w)
 Reads w (Load width rd rs1 off) = Has w (load_row width) × (rd ≡ rd_of w) × (rs1 ≡ rs1_of w) × (off ≡ imm_i w)
-Reads w (Store width rs2 rs1 off) = IsStore w width × (rs2 ≡ rs2_of w) × (rs1 ≡ rs1_of w) × (off ≡ imm_s w)
+Reads w (Store width rs2 rs1 off) = IsStoreWidth width × Has w (store_row width) × (rs2 ≡ rs2_of w) × (rs1 ≡ rs1_of w) × (off ≡ imm_s w)
 Reads w (Lr wide order rd rs1) = Has w lr_row × Has w (width_row wide) × (order ≡ order_of w) × (rd ≡ rd_of w) × (rs1 ≡ rs1_of w)
 Reads w (Sc wide order rd rs1 rs2) = Has w sc_row × Has w (width_row wide) × (order ≡ order_of w) × (rd ≡ rd_of w) × (rs1 ≡ rs1_of w) × (rs2 ≡ rs2_of w)
 Reads w (Amo op wide order rd rs1 rs2) = Has w (amo_row op) × Has w (width_row wide) × (order ≡ order_of w) × (rd ≡ rd_of w) × (rs1 ≡ rs1_of w) × (rs2 ≡ rs2_of w)

@@ -127,13 +127,13 @@ load_row width.Bu = f3 0b100 ∷ code 0b0000011 ∷ []
 load_row width.Hu = f3 0b101 ∷ code 0b0000011 ∷ []
 load_row width.Wu = f3 0b110 ∷ code 0b0000011 ∷ []
 
--- w has the row of a store of this width; the other widths have no row
-abbrev pub IsStore : ℕ → Width → Type 0
-IsStore w width.B = Has w (f3 0b000 ∷ code 0b0100011 ∷ [])
-IsStore w width.H = Has w (f3 0b001 ∷ code 0b0100011 ∷ [])
-IsStore w width.W = Has w (f3 0b010 ∷ code 0b0100011 ∷ [])
-IsStore w width.D = Has w (f3 0b011 ∷ code 0b0100011 ∷ [])
-IsStore w _ = ⊥
+-- a store comes in four widths; the others have no row
+abbrev pub store_row : Width → List Field
+store_row width.B = f3 0b000 ∷ code 0b0100011 ∷ []
+store_row width.H = f3 0b001 ∷ code 0b0100011 ∷ []
+store_row width.W = f3 0b010 ∷ code 0b0100011 ∷ []
+store_row width.D = f3 0b011 ∷ code 0b0100011 ∷ []
+store_row _ = []
 
 -- AMO: funct5, aq, rl, rs2, rs1, funct3, rd, opcode, with the width in funct3
 abbrev pub lr_row : List Field
