@@ -7,7 +7,7 @@ use Rattle.play.specs.declared.answer.Ended.TheVariants.{Ran, Usage, ReadFault, 
 use Rattle.play.specs.declared.call.Writing.{Writing}
 use Rattle.play.specs.declared.delivery.Delivery.{Delivery}
 use Rattle.play.specs.Answer.{line_of}
-use Rattle.play.specs.Decision.{form_of, decision_of}
+use Rattle.play.specs.Decision.{form_of, Decides}
 
 -- The reason of a refusal before the run: the words (usage), the device that was read under this name (fault), or that the words
 -- and files ask for this very refusal (is). Want of memory needs none.
@@ -26,7 +26,7 @@ Because usage fault is (Err ended) = Reason usage fault (λ e. is (Err e)) ended
 
 -- This was decided: from the words, what the files tell, the names that they were asked for, and their count of faults before and now.
 abbrev pub Decided : (words : List (List ℕ)) (told : Option Disk) (asked : Option (List (List ℕ))) (before now : ℕ) → Result Delivery Ended → Type 0
-Decided words told asked before now decision = Because (form_of words ≡ Err Usage) (λ name. TakeFailed name asked before now) (λ d. ForSome told (λ disk. decision_of words disk ≡ d)) decision
+Decided words told asked before now decision = Because (form_of words ≡ Err Usage) (λ name. TakeFailed name asked before now) (λ d. ForSome told (λ disk. Decides words disk d)) decision
 
 -- how a call ends that can write what was decided
 abbrev pub ended_of : Result Delivery Ended → Ended
@@ -84,9 +84,21 @@ pub record Delivered (reason : Result Delivery Ended → Type 0) (out_was out_no
   pub because : reason decision
   pub wrote : Wrote (writing_of decision) out_was out_now err_was err_now out_fault err_fault answer
 
--- The answer is the one that is asked for, but for a fault of a device and for want of memory.
-abbrev pub Settles : Ended → Ended → Type 0
+-- The answer is one that is asked for, but for a fault of a device and for want of memory.
+abbrev pub Settles : (asked : Ended → Type 0) → Ended → Type 0
 Settles asked (ReadFault name) = Unit {0}
 Settles asked WriteFault = Unit {0}
 Settles asked NoMemory = Unit {0}
-Settles asked answer = asked ≡ answer
+Settles asked answer = asked answer
+
+-- An answer that the words and the files ask for.
+pub record AsksFor (words : List (List ℕ)) (disk : Disk) (answer : Ended) : Type 0 where
+  pub decision : Result Delivery Ended
+  pub decided : Decides words disk decision
+  pub ended : ended_of decision ≡ answer
+
+-- What the words and the files ask for was written, all of it.
+pub record AllDone (words : List (List ℕ)) (disk : Disk) (out_was out_now err_was err_now : Option (List ℕ)) (answer : Ended) : Type 0 where
+  pub decision : Result Delivery Ended
+  pub decided : Decides words disk decision
+  pub written : AllWritten (writing_of decision) out_was out_now err_was err_now answer

@@ -1,16 +1,24 @@
 -- What a call decides from its words and its files: the first refusal that holds, or what the run delivers.
-use Rattle.std.specs.Prelude.{ℕ, List, [], ◌∷◌, ◌++◌, length, ◌-◌, slice_index, ◌==◌, Option, Some, None, Result, Ok, Err, nat_lt, if◌then◌else◌}
+use Rattle.std.specs.Prelude.{◌≡◌, ℕ, List, [], ◌∷◌, ◌++◌, length, ◌-◌, slice_index, ◌==◌, Bool, true, false, Option, Some, None, Result, Ok, Err, nat_lt, if◌then◌else◌}
+use Rattle.std.specs.List.{list_all}
+use Rattle.oc_base.specs.declared.range.Range.{Range}
+use Rattle.image.specs.Picture.{Picture}
+use Rattle.elf_read.specs.declared.elf.Elf.{Elf}
+use Rattle.elf_read.specs.Faults as elf
+use Rattle.elf_read.specs.Parts.{parts_of}
+use Rattle.relocs.specs.Built as built
+use Rattle.relocs.specs.Regions as regions
 use Rattle.oc_base.specs.Outside.{Disk}
 use Rattle.play.specs.declared.answer.Ended.{Ended}
-use Rattle.play.specs.declared.answer.Ended.TheVariants.{Usage, ReadFault, TooLong, Early}
+use Rattle.play.specs.declared.answer.Ended.TheVariants.{Usage, ReadFault, TooLong, Program, Early}
+use Rattle.play.specs.declared.answer.ProgramFault.{ProgramFault}
+use Rattle.play.specs.declared.answer.ProgramFault.TheVariants as program
 use Rattle.play.specs.declared.answer.Outcome.{Outcome}
 use Rattle.play.specs.declared.answer.Outcome.TheVariants.{Unfinished}
 use Rattle.play.specs.declared.delivery.Delivery.{Delivery}
 use Rattle.play.specs.declared.machine.Machine.{Machine}
-use Rattle.play.specs.declared.program.Program.{Program}
 use Rattle.play.specs.declared.TheConstants.{PROGRAM_LIMIT, SCRIPT_LIMIT}
-use Rattle.play.specs.Machine.{started, after_steps}
-use Rattle.play.specs.Program.{program_in}
+use Rattle.play.specs.Machine.{started, after_steps, is_run}
 use Rattle.play.specs.Script.{steps_in}
 
 -- a step that may refuse, and then the next
@@ -41,23 +49,58 @@ outcome_of None = Unfinished
 abbrev pub delivery_of : Machine → Delivery
 delivery_of m = record { outcome = outcome_of m.outcome; out = m.out; err = closed m.err }
 
--- the run of the program for the script's steps, where both have their form
-abbrev pub delivered : Option Program → Option ℕ → Result Delivery Ended
-delivered (Some program) (Some steps) = Ok (delivery_of (after_steps program (started program) steps))
-delivered None steps = Err Early
-delivered (Some program) None = Err Early
+-- each word of the text is one that the first path runs
+abbrev pub all_run : Picture → Bool
+all_run image = list_all (λ t. list_all is_run t.words) image.texts
 
--- what these bytes deliver
-unfoldable pub run_of : List ℕ → List ℕ → Result Delivery Ended
-run_of program script = delivered (program_in program) (steps_in script)
+-- the run of an image for the script's steps, where both have the form of the first path
+abbrev pub delivered : Picture → Bool → Option ℕ → Result Delivery Ended
+delivered image true (Some steps) = Ok (delivery_of (after_steps image (started image) steps))
+delivered image true None = Err Early
+delivered image false steps = Err Early
 
--- what the words and the files ask for
-unfoldable pub decision_of : List (List ℕ) → Disk → Result Delivery Ended
-decision_of words disk = do
+unfoldable pub run_of : Picture → List ℕ → Result Delivery Ended
+run_of image script = delivered image (all_run image) (steps_in script)
+
+-- the region where moved code may lie, of an executable that is given none
+abbrev pub region_of : Elf → Range
+region_of parts = regions.region_of parts None
+
+-- what the bytes of a program are: an image, or the first fault of the file or of its image
+abbrev pub Builds : List ℕ → Result Picture ProgramFault → Type 0
+Builds bytes (Ok image) = (elf.fault_of bytes ≡ None) × (built.fault_of (parts_of bytes) (region_of (parts_of bytes)) ≡ None) × built.IsImage (parts_of bytes) (region_of (parts_of bytes)) image
+Builds bytes (Err (program.Elf fault)) = elf.fault_of bytes ≡ Some fault
+Builds bytes (Err (program.Image fault)) = (elf.fault_of bytes ≡ None) × (built.fault_of (parts_of bytes) (region_of (parts_of bytes)) ≡ Some fault)
+
+-- a refusal that is a fault of the program
+abbrev pub Refuses : List ℕ → Ended → Type 0
+Refuses bytes (Program fault) = Builds bytes (Err fault)
+Refuses bytes _ = ⊥
+
+-- what an image delivers under a script, and what a fault does
+abbrev pub run_of_built : Result Picture ProgramFault → List ℕ → Result Delivery Ended
+run_of_built (Ok image) script = run_of image script
+run_of_built (Err fault) script = Err (Program fault)
+
+-- what the bytes of a program and of a script deliver
+abbrev pub Delivers : List ℕ → List ℕ → Result Delivery Ended → Type 0
+Delivers program script d = (image : Result Picture ProgramFault) × Builds program image × (run_of_built image script ≡ d)
+
+-- the bytes of both files, or the first refusal before them
+unfoldable pub files_of : List (List ℕ) → Disk → Result (List ℕ × List ℕ) Ended
+files_of words disk = do
   names ← form_of words
   program ← within names.0 PROGRAM_LIMIT (disk names.0)
   script ← within names.1 SCRIPT_LIMIT (disk names.1)
-  run_of program script
+  Ok (program, script)
+
+abbrev pub DecidesFrom : Result (List ℕ × List ℕ) Ended → Result Delivery Ended → Type 0
+DecidesFrom (Ok files) d = Delivers files.0 files.1 d
+DecidesFrom (Err ended) d = d ≡ Err ended
+
+-- what the words and the files ask for
+abbrev pub Decides : List (List ℕ) → Disk → Result Delivery Ended → Type 0
+Decides words disk d = DecidesFrom (files_of words disk) d
 
 -- the names that the words give, in the order in which the files are asked for them
 abbrev pub named : Result (List ℕ × List ℕ) Ended → List (List ℕ)

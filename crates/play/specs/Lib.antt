@@ -1,6 +1,6 @@
 pub mod Answer
 pub mod Cause
+pub mod Data
 pub mod Decision
 pub mod Machine
-pub mod Program
 pub mod Script

@@ -2,12 +2,15 @@
 
 ghost use Rattle.std.specs.Prelude.{◌≡◌, false, IfOk, string_bytes};
 ghost use Rattle.std.specs.Fmt.{digits};
-ghost use Rattle.play.specs.Answer.{status_of, line_of};
+ghost use Rattle.play.specs.Answer.{status_of, line_of, elf_numbers, image_numbers, elf_line, image_line};
 
+use elf_read::fault::ElfFault;
 use oc_base::fault::NoMemory;
 use oc_base::items::Items;
 use oc_base::text::Text;
+use relocs::fault::ImageFault;
 use std::alloc::{AllocError, Global};
+use thiserror::Error;
 
 /// How a run ends.
 #[derive(Clone, Copy, Debug, PartialEq, Eq)]
@@ -22,6 +25,17 @@ pub enum Outcome {
     Unfinished,
 }
 
+/// Why a file is no program.
+#[derive(Clone, Copy, Debug, PartialEq, Eq, Error)]
+pub enum ProgramFault {
+    /// The file is no executable that can be read.
+    #[error("program elf: {0}")]
+    Elf(ElfFault),
+    /// The executable has no image.
+    #[error("program image: {0}")]
+    Image(ImageFault),
+}
+
 /// How a call ends.
 #[derive(Debug, Drop)]
 pub enum Ended {
@@ -33,7 +47,9 @@ pub enum Ended {
     ReadFault(Text),
     /// A file of this name is longer than its limit.
     TooLong(Text),
-    /// The program or the script has not yet a form that can be run.
+    /// The file of the program is none, for its first fault. Want of memory is never this fault.
+    Program(ProgramFault),
+    /// The program's words or the script don't have a form that can be run yet.
     Early,
     /// An output could not be written.
     WriteFault,
@@ -62,6 +78,7 @@ pub fn status(ended: &Ended) -> u8
         Ended::Usage => 120,
         Ended::ReadFault(_) => 121,
         Ended::WriteFault => 122,
+        Ended::Program(_) => 123,
         Ended::NoMemory => 125,
         Ended::TooLong(_) => 126,
     }
@@ -71,6 +88,66 @@ fn hexadecimal(alloc: Global, n: u64) -> Result<String, AllocError>
     ensures { IfOk result (λ text. string_bytes text ≡ digits 16 false n) }
 {
     format!(in alloc; "{n:x}")
+}
+
+// The number of a fault of the file, and the offset or index that goes with it.
+fn elf_numbers(fault: ElfFault) -> (u8, u64)
+    ensures { result ≡ elf_numbers fault }
+{
+    match fault {
+        ElfFault::NotElf => (1, 0),
+        ElfFault::NotRiscv64Exec => (2, 0),
+        ElfFault::Compressed => (3, 0),
+        ElfFault::FloatAbi => (4, 0),
+        ElfFault::Truncated(offset) => (5, offset),
+        ElfFault::BadSegment(index) => (6, u64::from(index)),
+        ElfFault::TooLarge => (7, 0),
+        ElfFault::NoText => (8, 0),
+        ElfFault::NoSymbols => (9, 0),
+        ElfFault::NoMemory => (0, 0),
+    }
+}
+
+// The number of a fault of the image, and its address.
+fn image_numbers(fault: ImageFault) -> (u8, u64)
+    ensures { result ≡ image_numbers fault }
+{
+    match fault {
+        ImageFault::TextMisaligned(at) => (1, at),
+        ImageFault::TextOutside(at) => (2, at),
+        ImageFault::EntryOutside(at) => (3, at),
+        ImageFault::RegionOverlap(at) => (4, at),
+        ImageFault::RegionAimed(at) => (5, at),
+        ImageFault::NoMemory => (0, 0),
+    }
+}
+
+fn elf_line(alloc: Global, number: u8, value: u64) -> Result<String, AllocError>
+    ensures { IfOk result (λ line. string_bytes line ≡ elf_line (number, value)) }
+{
+    format!(in alloc; "ocolos: program elf {number} {value}\n")
+}
+
+fn image_line(alloc: Global, number: u8, address: u64) -> Result<String, AllocError>
+    ensures { IfOk result (λ line. string_bytes line ≡ image_line (number, address)) }
+{
+    let address = hexadecimal(alloc, address)?;
+    format!(in alloc; "ocolos: program image {number} 0x{address}\n")
+}
+
+fn program_line(alloc: Global, fault: ProgramFault) -> Result<String, AllocError>
+    ensures { IfOk result (λ line. string_bytes line ≡ line_of (Ended.Program fault)) }
+{
+    match fault {
+        ProgramFault::Elf(fault) => {
+            let (number, value) = elf_numbers(fault);
+            elf_line(alloc, number, value)
+        }
+        ProgramFault::Image(fault) => {
+            let (number, address) = image_numbers(fault);
+            image_line(alloc, number, address)
+        }
+    }
 }
 
 fn trap_line(alloc: Global, cause: u8, pc: u64, value: u64) -> Result<String, AllocError>
@@ -98,6 +175,7 @@ pub fn last_line(alloc: Global, ended: &Ended) -> Result<Items<u8>, NoMemory>
 {
     let text = match ended {
         Ended::Ran(outcome) => outcome_line(alloc, *outcome),
+        Ended::Program(fault) => program_line(alloc, *fault),
         Ended::Early => String::from_str(alloc, "ocolos: early\n"),
         Ended::Usage => String::from_str(alloc, "ocolos: usage\n"),
         Ended::ReadFault(name) => {

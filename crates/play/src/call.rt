@@ -1,12 +1,14 @@
 //! The call itself: decide from words and files, make all text, write it.
 
-ghost use Rattle.std.specs.Prelude.{◌≡◌, ◌≢◌, ◌⊎◌, ℕ, ◌≤◌, List, [], ◌∷◌, ◌++◌, map, Option, Ok, Err, IfOk, IfErr, MatchOption, string_bytes};
+ghost use Rattle.std.specs.Prelude.{◌≡◌, ◌≢◌, ◌⊎◌, ℕ, ◌≤◌, List, [], ◌∷◌, ◌++◌, map, Option, Result, Ok, Err, IfOk, IfErr, MatchOption, string_bytes};
 ghost use Rattle.std.specs.Option.{ForSome};
-ghost use Rattle.oc_base.specs.Outside.{Rose, Asks, GainedPart, TakeFailed};
+ghost use Rattle.oc_base.specs.Outside.{Rose, Asks, Disk, GainedPart, TakeFailed};
 ghost use Rattle.play.specs.Answer.{status_of, line_of};
-ghost use Rattle.play.specs.Cause.{Reason, Decided, ended_of, writing_of, Wrote, Delivered, GaveUp, Settles, AllWritten};
+ghost use Rattle.play.specs.Cause.{Reason, Decided, writing_of, Wrote, Delivered, GaveUp, Settles, AsksFor, AllDone};
+ghost use Rattle.play.specs.declared.answer.Ended.{Ended};
 ghost use Rattle.play.specs.declared.answer.Outcome.{Outcome};
-ghost use Rattle.play.specs.Decision.{form_of, within, decision_of, names_of};
+ghost use Rattle.play.specs.declared.delivery.Delivery.{Delivery};
+ghost use Rattle.play.specs.Decision.{form_of, within, Decides, names_of};
 
 use crate::answer::{Answer, Ended, last_line, status};
 use crate::delivery::{Delivery, run};
@@ -155,11 +157,15 @@ pub fn play<F: Files, I: Source, O: Sink, E: Sink>(
 
     // Where the files tell, a run that is answered is the run of their bytes, and all that it delivers is written.
     ensures ran { (outcome : Outcome) → result.ended ≡ Ended.Ran outcome → ForSome (F.disk files.old) (λ disk.
-        AllWritten (writing_of (decision_of (map string_bytes words.now) disk))
+        AllDone (map string_bytes words.now) disk
         (O.holds out.old) (O.holds out.new) (E.holds err.old) (E.holds err.new) result.ended) }
 
     // The answer is the one that the words and the files ask for, but for a fault of a device and for want of memory.
-    ensures answer { ForSome (F.disk files.old) (λ disk. Settles (ended_of (decision_of (map string_bytes words.now) disk)) result.ended) }
+    ensures answer { ForSome (F.disk files.old) (λ disk. Settles (AsksFor (map string_bytes words.now) disk) result.ended) }
+
+    // They ask for one thing.
+    ensures one { (disk : Disk) (d e : Result Delivery Ended) → Decides (map string_bytes words.now) disk d
+        → Decides (map string_bytes words.now) disk e → d ≡ e }
 
     // Each refusal has its cause, told or not.
     ensures usage { result.ended ≡ Ended.Usage → form_of (map string_bytes words.now) ≡ Err Ended.Usage }
@@ -178,7 +184,7 @@ pub fn play<F: Files, I: Source, O: Sink, E: Sink>(
     ensures complete { ForSome (F.disk files.old) (λ disk.
         (Rose (F.take_faults files.old) (F.take_faults files.new) → ⊥) → (Rose (O.faults out.old) (O.faults out.new) → ⊥)
         → (Rose (E.faults err.old) (E.faults err.new) → ⊥) → result.ended ≢ Ended.NoMemory
-        → AllWritten (writing_of (decision_of (map string_bytes words.now) disk))
+        → AllDone (map string_bytes words.now) disk
         (O.holds out.old) (O.holds out.new) (E.holds err.old) (E.holds err.new) result.ended) }
 
     // The files are asked for the names of the words alone, each once and in their order, and keep what they have.

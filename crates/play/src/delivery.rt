@@ -1,15 +1,23 @@
 //! What the bytes of a program and a script deliver.
 
-ghost use Rattle.std.specs.Prelude.{◌≡◌, IfOk};
-ghost use Rattle.play.specs.Cause.{Because};
-ghost use Rattle.play.specs.Decision.{closed, outcome_of, run_of};
+ghost use Rattle.std.specs.Prelude.{◌≡◌, Ok, Err, IfOk, IfErr};
+ghost use Rattle.std.specs.List.{list_all};
+ghost use Rattle.image.specs.declared.ranges.TextRange.{TextRange as TextData};
+ghost use Rattle.play.specs.Cause.{Reason, Because};
+ghost use Rattle.play.specs.Decision.{Builds, Refuses, Delivers, all_run, closed, outcome_of, run_of};
+ghost use Rattle.play.specs.Machine.{is_run};
 
-use crate::answer::{Ended, Outcome};
-use crate::machine::Machine;
-use crate::program::Program;
+use crate::answer::{Ended, Outcome, ProgramFault};
+use crate::machine::{Machine, is_run};
 use crate::script::steps_in;
+use elf_read::fault::ElfFault;
+use elf_read::read::read_elf;
+use image::picture::Image;
+use image::ranges::TextRange;
 use oc_base::fault::NoMemory;
 use oc_base::items::Items;
+use relocs::build::build_image;
+use relocs::fault::ImageFault;
 use std::alloc::Global;
 
 /// How a run ended, and what it wrote: its first output, and its second with a newline at its end.
@@ -47,22 +55,55 @@ fn closed(text: Items<u8>) -> Result<Items<u8>, NoMemory>
     Ok(text)
 }
 
-/// Runs the program under the script.
-#[tactic(auto, unfolding(crate::specs::Decision::run_of))]
-pub fn run(alloc: Global, program: &[u8], script: &[u8]) -> Result<Delivery, Ended>
-    ensures { Because ⊥ (λ _. ⊥) (λ decision. run_of program.now script.now ≡ decision) result }
+// The image of a program, with the default region.
+fn build(alloc: Global, bytes: &[u8]) -> Result<Image, Ended>
+    ensures image { IfOk result (λ image. Builds bytes.now (Ok image)) }
+    ensures refusal { IfErr result (Reason ⊥ (λ _. ⊥) (Refuses bytes.now)) }
 {
-    let Ok(program) = Program::in_bytes(alloc, program) else {
-        return Err(Ended::NoMemory);
+    let elf = match read_elf(alloc, bytes) {
+        Ok(elf) => elf,
+        Err(ElfFault::NoMemory) => return Err(Ended::NoMemory),
+        Err(fault) => return Err(Ended::Program(ProgramFault::Elf(fault))),
     };
-    let Some(program) = program else {
+    match build_image(alloc, &elf, None) {
+        Ok(image) => Ok(image),
+        Err(ImageFault::NoMemory) => Err(Ended::NoMemory),
+        Err(fault) => Err(Ended::Program(ProgramFault::Image(fault))),
+    }
+}
+
+fn words_run(words: &[u32]) -> bool
+    ensures { result ≡ list_all is_run words.now }
+{
+    words.iter().all(|w| is_run(*w))
+}
+
+fn text_runs(text: &TextRange) -> bool
+    ensures { result ≡ list_all is_run text.now.words }
+{
+    words_run(text.words.as_slice())
+}
+
+// Whether the first path runs each word of the text.
+fn all_run(image: &Image) -> bool
+    ensures { result ≡ all_run image.now }
+{
+    image.texts().iter().all(|text| text_runs(text))
+}
+
+// The run of an image for the script's steps.
+#[tactic(auto, unfolding(crate::specs::Decision::run_of))]
+fn run_image(alloc: Global, image: &Image, script: &[u8]) -> Result<Delivery, Ended>
+    ensures { Because ⊥ (λ _. ⊥) (λ decision. run_of image.now script.now ≡ decision) result }
+{
+    if !all_run(image) {
         return Err(Ended::Early);
-    };
+    }
     let Some(steps) = steps_in(script) else {
         return Err(Ended::Early);
     };
-    let mut machine = Machine::started(alloc, &program);
-    let Ok(()) = machine.run(&program, steps) else {
+    let mut machine = Machine::started(alloc, image);
+    let Ok(()) = machine.run(alloc, image, steps) else {
         return Err(Ended::NoMemory);
     };
     let Machine {
@@ -79,4 +120,15 @@ pub fn run(alloc: Global, program: &[u8], script: &[u8]) -> Result<Delivery, End
         out,
         err,
     })
+}
+
+/// Runs the program under the script.
+pub fn run(alloc: Global, program: &[u8], script: &[u8]) -> Result<Delivery, Ended>
+    ensures { Because ⊥ (λ _. ⊥) (Delivers program.now script.now) result }
+{
+    let image = match build(alloc, program) {
+        Ok(image) => image,
+        Err(ended) => return Err(ended),
+    };
+    run_image(alloc, &image, script)
 }

@@ -4,9 +4,9 @@
 
 pub mod answer;
 pub mod call;
+mod data;
 pub mod delivery;
 mod machine;
-mod program;
 mod script;
 
 /// The most bytes of a program's file.

@@ -1,12 +1,13 @@
-//! The machine of the first path: one hart over three instructions, with two outputs.
+//! The machine of the first path: one hart of an image over three instructions, with two outputs.
 
-ghost use Rattle.std.specs.Prelude.{◌≡◌, ◌+◌, ◌*◌, ◌<◌, ◌^◌, ◌++◌, ℕ, List, length, OnOk};
+ghost use Rattle.std.specs.Prelude.{◌≡◌, ◌+◌, ◌*◌, ◌<◌, ◌^◌, ◌++◌, ℕ, List, length, Some, IfOk, OnOk};
 ghost use Rattle.rv_alu.specs.Arithmetic.{extended};
-ghost use Rattle.play.specs.Machine.{started, answered, is_readable, output_of, fits, write_effect, call_effect, effect_of, effect_at, data_at, stepped, appended, after_effect, after_steps};
+ghost use Rattle.play.specs.Machine.{is_run, started, answered, output_of, fits, write_effect, call_effect, effect_of, effect_at, stepped, appended, after_effect, after_steps};
 
 use crate::OUTPUT_LIMIT;
 use crate::answer::Outcome;
-use crate::program::Program;
+use crate::data::bytes_at;
+use image::picture::Image;
 use oc_base::fault::NoMemory;
 use oc_base::items::Items;
 use rv_alu::alu_imm;
@@ -16,6 +17,23 @@ use rv_isa::fields::{Imm20, Reg};
 use rv_isa::instr::{ImmOp, Instr};
 use std::alloc::Global;
 
+/// Whether a word is one of the three instructions that the first path runs.
+#[tactic(auto, unfolding(crate::specs::Machine::is_run))]
+pub fn is_run(word: u32) -> bool
+    ensures { result ≡ is_run word }
+{
+    matches!(
+        decode(word),
+        Some(
+            Instr::AluImm {
+                op: ImmOp::Addi,
+                ..
+            } | Instr::Lui { .. }
+                | Instr::Ecall
+        )
+    )
+}
+
 /// The two outputs of a guest: its standard output and its standard error.
 #[derive(Clone, Copy, Debug, PartialEq, Eq)]
 pub enum Output {
@@ -24,19 +42,12 @@ pub enum Output {
 }
 
 /// What one step does.
-#[derive(Clone, Copy, Debug, PartialEq, Eq)]
+#[derive(Debug, Drop)]
 pub enum Effect {
     /// A register gets a value, and the next instruction follows.
-    Next {
-        rd: Reg,
-        value: u64,
-    },
-    /// Bytes of the data are added to an output, their number goes to x10, and the next instruction follows.
-    Append {
-        output: Output,
-        from: u64,
-        count: u64,
-    },
+    Next { rd: Reg, value: u64 },
+    /// Bytes are added to an output, their number goes to x10, and the next instruction follows.
+    Append { output: Output, bytes: Items<u8> },
     /// The run ends.
     Stop(Outcome),
 }
@@ -69,28 +80,6 @@ fn answer(value: u64) -> Effect
     }
 }
 
-// Whether all these bytes are data.
-fn is_readable(program: &Program, from: u64, count: u64) -> bool
-    ensures { result ≡ is_readable program.now from count }
-{
-    let len = program.bytes.len() as u64;
-    count == 0
-        || (program.bytes_from <= from
-            && from - program.bytes_from <= len
-            && count <= len - (from - program.bytes_from))
-}
-
-// The bytes of the data from an address on, at most so many.
-fn data_at(program: &Program, from: u64, count: u64) -> &[u8]
-    ensures { result.now ≡ data_at program.now from count }
-{
-    let bytes = program.bytes.as_slice();
-    let len = bytes.len() as u64;
-    let start = from.saturating_sub(program.bytes_from).min(len);
-    let end = start + count.min(len - start);
-    &bytes[start as usize..end as usize]
-}
-
 fn output_of(number: u64) -> Option<Output>
     ensures { result ≡ output_of number }
 {
@@ -103,12 +92,12 @@ fn output_of(number: u64) -> Option<Output>
 
 impl Machine {
     /// The machine before its first step.
-    pub fn started(alloc: Global, program: &Program) -> Machine
-        ensures { result ≡ started program.now }
+    pub fn started(alloc: Global, image: &Image) -> Machine
+        ensures { result ≡ started image.now }
     {
         Machine {
             registers: [0; 32],
-            pc: program.text_from,
+            pc: image.entry(),
             out: Items::new(alloc),
             err: Items::new(alloc),
             outcome: None,
@@ -116,55 +105,55 @@ impl Machine {
     }
 
     // Whether an output has room for more bytes.
-    fn fits(&self, output: Output, count: u64) -> bool
+    fn fits(&self, output: Output, count: usize) -> bool
         ensures { result ≡ fits self.now output count }
     {
         let held = match output {
             Output::One => self.out.len(),
             Output::Two => self.err.len(),
         };
-        let limit = OUTPUT_LIMIT as u64;
-        held as u64 <= limit && count <= limit - held as u64
+        held <= OUTPUT_LIMIT && count <= OUTPUT_LIMIT - held
     }
 
     // The call 64, write: an output, an address and a number of bytes.
     #[tactic(auto, unfolding(crate::specs::Machine::write_effect))]
-    fn write_effect(&self, program: &Program) -> Effect
-        ensures { result ≡ write_effect program.now self.now }
+    fn write_effect(&self, alloc: Global, image: &Image) -> Result<Effect, NoMemory>
+        ensures { IfOk result (λ effect. effect ≡ write_effect image.now self.now) }
     {
-        let from = self.registers[11];
-        let count = self.registers[12];
         let Some(output) = output_of(self.registers[10]) else {
-            return answer(9u64.wrapping_neg());
+            return Ok(answer(9u64.wrapping_neg()));
         };
-        if !is_readable(program, from, count) {
-            return answer(14u64.wrapping_neg());
+        let bytes = bytes_at(alloc, image, self.registers[11], self.registers[12])?;
+        let Some(bytes) = bytes else {
+            return Ok(answer(14u64.wrapping_neg()));
+        };
+        if !self.fits(output, bytes.len()) {
+            return Ok(Effect::Stop(Outcome::OutputFull));
         }
-        if !self.fits(output, count) {
-            return Effect::Stop(Outcome::OutputFull);
-        }
-        Effect::Append {
-            output,
-            from,
-            count,
-        }
+        Ok(Effect::Append { output, bytes })
     }
 
     // A call of the system.
     #[tactic(auto, unfolding(crate::specs::Machine::call_effect))]
-    fn call_effect(&self, program: &Program) -> Effect
-        ensures { result ≡ call_effect program.now self.now }
+    fn call_effect(&self, alloc: Global, image: &Image) -> Result<Effect, NoMemory>
+        ensures { IfOk result (λ effect. effect ≡ call_effect image.now self.now) }
     {
         match self.registers[17] {
-            64 => self.write_effect(program),
-            93 => Effect::Stop(Outcome::Exit((self.registers[10] % 256) as u8)),
-            _ => answer(38u64.wrapping_neg()),
+            64 => self.write_effect(alloc, image),
+            93 => Ok(Effect::Stop(Outcome::Exit((self.registers[10] % 256) as u8))),
+            _ => Ok(answer(38u64.wrapping_neg())),
         }
     }
 
     // What an instruction does, given its word.
-    fn effect_of(&self, program: &Program, word: u32, instr: &Instr) -> Effect
-        ensures { result ≡ effect_of program.now self.now word (Some instr.now) }
+    fn effect_of(
+        &self,
+        alloc: Global,
+        image: &Image,
+        word: u32,
+        instr: &Instr,
+    ) -> Result<Effect, NoMemory>
+        ensures { IfOk result (λ effect. effect ≡ effect_of image.now self.now word (Some instr.now)) }
     {
         match *instr {
             Instr::AluImm {
@@ -174,42 +163,42 @@ impl Machine {
                 imm,
             } => {
                 let value = alu_imm(ImmOp::Addi, self.registers[rs1.get() as usize], imm);
-                Effect::Next { rd, value }
+                Ok(Effect::Next { rd, value })
             }
-            Instr::Lui { rd, imm } => Effect::Next {
+            Instr::Lui { rd, imm } => Ok(Effect::Next {
                 rd,
                 value: upper(imm),
-            },
-            Instr::Ecall => self.call_effect(program),
-            _ => Effect::Stop(Outcome::Trap {
+            }),
+            Instr::Ecall => self.call_effect(alloc, image),
+            _ => Ok(Effect::Stop(Outcome::Trap {
                 cause: 2,
                 pc: self.pc,
                 value: u64::from(word),
-            }),
+            })),
         }
     }
 
     // What the next step does.
     #[tactic(auto, unfolding(crate::specs::Machine::effect_at))]
-    fn effect(&self, program: &Program) -> Effect
-        ensures { result ≡ effect_at program.now self.now }
+    fn effect(&self, alloc: Global, image: &Image) -> Result<Effect, NoMemory>
+        ensures { IfOk result (λ effect. effect ≡ effect_at image.now self.now) }
     {
         let pc = self.pc;
-        let Some(word) = program.word(pc) else {
-            return Effect::Stop(Outcome::Trap {
+        let Some(word) = image.word(pc) else {
+            return Ok(Effect::Stop(Outcome::Trap {
                 cause: 1,
                 pc,
                 value: pc,
-            });
+            }));
         };
         let Some(instr) = decode(word) else {
-            return Effect::Stop(Outcome::Trap {
+            return Ok(Effect::Stop(Outcome::Trap {
                 cause: 2,
                 pc,
                 value: u64::from(word),
-            });
+            }));
         };
-        self.effect_of(program, word, &instr)
+        self.effect_of(alloc, image, word, &instr)
     }
 
     // The next instruction, with a register written.
@@ -224,7 +213,7 @@ impl Machine {
         self.pc = self.pc.wrapping_add(4);
     }
 
-    // Adds bytes of the data to an output.
+    // Adds bytes to an output.
     #[tactic(auto, unfolding(crate::specs::Machine::appended))]
     fn append(&mut self, output: Output, bytes: &[u8]) -> Result<(), NoMemory>
         ensures { OnOk result (self.new ≡ appended self.old output bytes.now) }
@@ -237,21 +226,17 @@ impl Machine {
 
     // One step of a run that hasn't ended.
     #[tactic(auto, unfolding(crate::specs::Machine::after_effect))]
-    fn step(&mut self, program: &Program) -> Result<(), NoMemory>
-        ensures { OnOk result (self.new ≡ after_effect program.now self.old (effect_at program.now self.old)) }
+    fn step(&mut self, alloc: Global, image: &Image) -> Result<(), NoMemory>
+        ensures { OnOk result (self.new ≡ after_effect self.old (effect_at image.now self.old)) }
     {
-        match self.effect(program) {
+        match self.effect(alloc, image)? {
             Effect::Next { rd, value } => {
                 self.go_on(rd, value);
                 Ok(())
             }
-            Effect::Append {
-                output,
-                from,
-                count,
-            } => {
-                self.append(output, data_at(program, from, count))?;
-                self.go_on(Reg::new(10).unwrap(), count);
+            Effect::Append { output, bytes } => {
+                self.append(output, bytes.as_slice())?;
+                self.go_on(Reg::new(10).unwrap(), bytes.len() as u64);
                 Ok(())
             }
             Effect::Stop(outcome) => {
@@ -262,14 +247,14 @@ impl Machine {
     }
 
     /// The run of so many steps. After want of memory the machine is of no use.
-    pub fn run(&mut self, program: &Program, steps: u32) -> Result<(), NoMemory>
-        ensures { OnOk result (self.new ≡ after_steps program.now self.old steps) }
+    pub fn run(&mut self, alloc: Global, image: &Image, steps: u32) -> Result<(), NoMemory>
+        ensures { OnOk result (self.new ≡ after_steps image.now self.old steps) }
     {
         for _step in 0..steps {
             if self.outcome.is_some() {
                 return Ok(());
             }
-            self.step(program)?;
+            self.step(alloc, image)?;
         }
         Ok(())
     }

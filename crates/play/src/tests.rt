@@ -38,8 +38,25 @@ fn program_header(
     Ok(())
 }
 
-// An ELF file with these words of text at 0x10000 and `hi` with a newline at 0x11000.
-fn program(alloc: Global, words: &[u32]) -> Result<Vec<u8>, Fail> {
+fn section_header(
+    file: &mut Vec<u8>,
+    kind: u32,
+    flags: u64,
+    at: u64,
+    size: u64,
+) -> Result<(), Fail> {
+    put(file, &0u32.to_le_bytes())?;
+    put(file, &kind.to_le_bytes())?;
+    for field in [flags, at, 0, size, 0, 4, 0] {
+        put(file, &field.to_le_bytes())?;
+    }
+    Ok(())
+}
+
+// An ELF file with these words of text at 0x10000 and these bytes of data at 0x11000, and an empty table of symbols.
+fn program(alloc: Global, words: &[u32], data: &[u8]) -> Result<Vec<u8>, Fail> {
+    let text = 4 * words.len() as u64;
+    let size = data.len() as u64;
     let mut file = Vec::new(alloc);
     put(
         &mut file,
@@ -47,16 +64,17 @@ fn program(alloc: Global, words: &[u32]) -> Result<Vec<u8>, Fail> {
     )?;
     put(&mut file, &0x10000u64.to_le_bytes())?;
     put(&mut file, &64u64.to_le_bytes())?;
-    put(
-        &mut file,
-        b"\0\0\0\0\0\0\0\0\0\0\0\0\x40\0\x38\0\x02\0\x40\0\0\0\0\0",
-    )?;
-    program_header(&mut file, 5, 176, 0x10000, 32)?;
-    program_header(&mut file, 6, 208, 0x11000, 3)?;
+    put(&mut file, &(176 + text + size).to_le_bytes())?;
+    put(&mut file, b"\0\0\0\0\x40\0\x38\0\x02\0\x40\0\x03\0\0\0")?;
+    program_header(&mut file, 5, 176, 0x10000, text)?;
+    program_header(&mut file, 6, 176 + text, 0x11000, size)?;
     for word in words {
         put(&mut file, &word.to_le_bytes())?;
     }
-    put(&mut file, b"hi\n")?;
+    put(&mut file, data)?;
+    section_header(&mut file, 0, 0, 0, 0)?;
+    section_header(&mut file, 1, 6, 0x10000, text)?;
+    section_header(&mut file, 2, 0, 0, 0)?;
     Ok(file)
 }
 
@@ -64,16 +82,44 @@ fn named(alloc: Global, name: &str, bytes: Vec<u8>) -> Result<(String, Vec<u8>),
     Ok((String::from_str(alloc, name)?, bytes))
 }
 
-// The files of all rows.
+// The program `hi` with another last word.
+fn ending(alloc: Global, word: u32) -> Result<Vec<u8>, Fail> {
+    let mut words = HI;
+    words[7] = word;
+    program(alloc, &words, b"hi\n")
+}
+
+// The program `hi`, cut to its first bytes.
+fn cut(alloc: Global, len: usize) -> Result<Vec<u8>, Fail> {
+    let mut file = program(alloc, &HI, b"hi\n")?;
+    file.truncate(len);
+    Ok(file)
+}
+
+// The program `hi` with its flags for compressed instructions set.
+fn compressed(alloc: Global) -> Result<Vec<u8>, Fail> {
+    let mut file = program(alloc, &HI, b"hi\n")?;
+    if file.len() > 48 {
+        file[48] = 1;
+    }
+    Ok(file)
+}
+
+// The files of all rows. The whole file `hi.elf` has 403 bytes, its section headers from 211 on.
 fn disk(alloc: Global) -> Result<Vec<(String, Vec<u8>)>, Fail> {
-    let mut trapping = HI;
-    trapping[7] = 0x0000_0013;
-    let mut branching = HI;
-    branching[7] = 0x0000_0063;
     let mut files = Vec::new(alloc);
-    files.push(named(alloc, "hi.elf", program(alloc, &HI)?)?)?;
-    files.push(named(alloc, "trap.elf", program(alloc, &trapping)?)?)?;
-    files.push(named(alloc, "branch.elf", program(alloc, &branching)?)?)?;
+    files.push(named(alloc, "hi.elf", program(alloc, &HI, b"hi\n")?)?)?;
+    files.push(named(alloc, "trap.elf", ending(alloc, 0x0000_0013)?)?)?;
+    files.push(named(alloc, "branch.elf", ending(alloc, 0x0000_0063)?)?)?;
+    files.push(named(alloc, "empty.elf", Vec::new(alloc))?)?;
+    files.push(named(alloc, "cut.elf", cut(alloc, 63)?)?)?;
+    files.push(named(alloc, "cut at the end.elf", cut(alloc, 402)?)?)?;
+    files.push(named(alloc, "compressed.elf", compressed(alloc)?)?)?;
+    files.push(named(
+        alloc,
+        "into the region.elf",
+        program(alloc, &[0x0000_206f], b"")?,
+    )?)?;
     files.push(named(alloc, "whole", b"real 0 100\nend\n".to_vec(alloc)?)?)?;
     files.push(named(alloc, "no newline", b"real 0 100\nend".to_vec(alloc)?)?)?;
     files.push(named(alloc, "four", b"real 0 4\nend\n".to_vec(alloc)?)?)?;
@@ -166,6 +212,51 @@ const RUNS: [Row; 6] = [
     },
 ];
 
+const FAULTS: [Row; 6] = [
+    Row {
+        words: &["empty.elf", "whole"],
+        fails: [0, 0, 0],
+        status: 123,
+        out: "",
+        err: "ocolos: program elf 1 0\n",
+    },
+    Row {
+        words: &["cut.elf", "whole"],
+        fails: [0, 0, 0],
+        status: 123,
+        out: "",
+        err: "ocolos: program elf 5 0\n",
+    },
+    Row {
+        words: &["compressed.elf", "whole"],
+        fails: [0, 0, 0],
+        status: 123,
+        out: "",
+        err: "ocolos: program elf 3 0\n",
+    },
+    Row {
+        words: &["cut at the end.elf", "whole"],
+        fails: [0, 0, 0],
+        status: 123,
+        out: "",
+        err: "ocolos: program elf 5 211\n",
+    },
+    Row {
+        words: &["into the region.elf", "whole"],
+        fails: [0, 0, 0],
+        status: 123,
+        out: "",
+        err: "ocolos: program image 5 0x10000\n",
+    },
+    Row {
+        words: &["empty.elf", "till"],
+        fails: [0, 0, 0],
+        status: 123,
+        out: "",
+        err: "ocolos: program elf 1 0\n",
+    },
+];
+
 const REFUSALS: [Row; 10] = [
     Row {
         words: &["hi.elf", "till"],
@@ -250,6 +341,14 @@ fn runs_deliver_what_the_guest_wrote(rt: HostRuntime) -> Result<(), Fail> {
 #[test]
 fn refusals_name_their_cause(rt: HostRuntime) -> Result<(), Fail> {
     for row in &REFUSALS {
+        check(&rt, row)?;
+    }
+    Ok(())
+}
+
+#[test]
+fn a_program_with_a_fault_is_refused_by_it(rt: HostRuntime) -> Result<(), Fail> {
+    for row in &FAULTS {
         check(&rt, row)?;
     }
     Ok(())

@@ -1,3 +1,4 @@
+use Rattle.play.proofs.OneDecision.{one_decision}
 use Rattle.play.proofs.Written.{written_settles, written_whole, written_ran}
 use Rattle.play.proofs.call.play.Goals as goal
 
@@ -12,3 +13,9 @@ returns-clause-complete g c = λ disk tells quiet_files quiet_out quiet_err memo
 pub returns-clause-ran : goal.returns-clause-ran
 returns-clause-ran g c = λ outcome ran disk tells.
     written_ran _ _ _ _ _ disk c.decide.result c.in-Ok.writing _ _ _ _ _ _ _ outcome tells c.decide.ensures.why c.in-Ok.ensures.is c.deliver-ended.ensures.wrote ran
+
+pub returns-clause-one : goal.returns-clause-one
+returns-clause-one g c = one_decision _
+
+pub returns-in_default-clause-one : goal.returns-in_default-clause-one
+returns-in_default-clause-one g c = one_decision _
