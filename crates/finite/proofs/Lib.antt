@@ -1,4 +1,7 @@
+pub mod Arranged
 pub mod Filtered
 pub mod Finding
+pub mod LeastFound
+pub mod Mapped
 pub mod OneList
 pub mod Searching

@@ -1,9 +1,11 @@
 -- A search by a key that rises.
-use Rattle.std.proofs.Common.{◌≡◌, ◌≢◌, ℕ, ◌<◌, ◌≤◌, ◌+◌, ◌-◌, Bool, false, eqb, leb, ltb, List, [], ◌∷◌, length, get_or, Some, None, refl, inl, inr, arith}
+use Rattle.std.proofs.Common.{◌≡◌, ◌≢◌, ℕ, zero, drop, ◌<◌, ◌≤◌, ◌+◌, ◌-◌, suc, Bool, true, false, cond, eqb, leb, ltb, List, [], ◌∷◌, length, get_or, Option, Some, None, refl, inl, inr, arith}
 use Rattle.std.specs.Prelude.{◌==◌, ◌&&◌}
-use Rattle.std.specs.List.{All, AllPairs, AllWithin, position, position_or_len}
+use Rattle.std.specs.List.{All, AllPairs, AllWithin, find, position, position_or_len}
 use Rattle.std.specs.List.Sorted.{IsNonDecreasingBy}
-use Rattle.std.proofs.lemmas.Bool.{lt-ltb, le-ltb, lt-leb, le-leb, and_left, and_right, and_from, cases_lt, cases_order, ne_eqb, eq-eqb}
+use Rattle.std.proofs.lemmas.Bool.{lt-ltb, le-ltb, lt-leb, le-leb, and_left, and_right, and_from, and_parts, ltb-true, ltb-false, cases_lt, cases_order, ne_eqb, eq-eqb}
+use Rattle.std.specs.Option.{option_and_then}
+use Rattle.std.proofs.lemmas.List.Elements.{All-tail}
 use Rattle.std.proofs.lemmas.List.Sums.{position_or_len_is}
 
 pub rises : {X : Type 0} (key : X → ℕ) (xs : List X) → AllPairs (λ x y. key x < key y) xs → IsNonDecreasingBy key xs
@@ -88,3 +90,42 @@ uncovered key end [] a n sep ordered past le last = refl
 uncovered key end (x ∷ xs) a n sep ordered past le last =
     let fails : (k : ℕ) → k < length (x ∷ xs) → spans key end a (get_or (x ∷ xs) k x) ≡ false = λ k h. uncovered_at key end (x ∷ xs) a n k x sep ordered past le (last x) h in
     nowhere (spans key end a) (x ∷ xs) (position_or_len_is (spans key end a) (x ∷ xs) (length (x ∷ xs)) x (omega arith) fails (λ h. absurd (omega arith)))
+
+abbrev pub wholly : {X : Type 0} (key end : X → ℕ) → ℕ → ℕ → X → Bool
+wholly key end a b x = leb (key x) a && leb b (end x)
+
+abbrev pub reaching : {X : Type 0} (end : X → ℕ) → ℕ → X → Option X
+reaching end b x = cond (leb b (end x)) (Some x) None
+
+-- what doesn't span the first number doesn't hold the range
+unspanned : (k e a b : ℕ) (c : Bool) → a < b → leb k a ≡ c → (leb k a && ltb a e) ≡ false → (leb k a && leb b e) ≡ false
+unspanned k e a b true lt is h =
+    let past = ltb-false a e (rw is at h) in
+    and_right _ _ (lt-leb b e (omega (arith, past)))
+unspanned k e a b false lt is h = and_left _ _ is
+
+none_wholly : {X : Type 0} (key end : X → ℕ) (xs : List X) (a b : ℕ) → All (λ x. a < key x) xs → find (wholly key end a b) xs ≡ None
+none_wholly key end [] a b h = refl
+none_wholly key end (x ∷ xs) a b h = rw (lt-leb (key x) a (h 0 x (omega arith))) (none_wholly key end xs a b (All-tail (λ y. a < key y) x xs h))
+
+pub tail_pairs : {X : Type 0} (R : X → X → Type 0) (x : X) (xs : List X) → AllPairs R (x ∷ xs) → AllPairs R xs
+tail_pairs R x xs up i j d lt within = up (suc i) (suc j) d (omega arith) (omega arith)
+
+wholly_case : {X : Type 0} (key end : X → ℕ) (x : X) (xs : List X) (a b : ℕ) (c e : Bool) → AllPairs (λ y z. end y ≤ key z) (x ∷ xs) → a < b → spans key end a x ≡ c → leb b (end x) ≡ e → find (wholly key end a b) xs ≡ option_and_then (reaching end b) (find (spans key end a) xs) → find (wholly key end a b) (x ∷ xs) ≡ option_and_then (reaching end b) (cond c (Some x) (find (spans key end a) xs))
+wholly_case key end x xs a b true true sep lt is reach rest = rw ((and_parts (leb (key x) a) (ltb a (end x)) is).0, reach) refl
+wholly_case key end x xs a b true false sep lt is reach rest =
+    let parts = and_parts (leb (key x) a) (ltb a (end x)) is in
+    let inside : a < end x = ltb-true _ _ parts.1 in
+    let past : All (λ y. a < key y) xs = λ k d h. (let e : end x ≤ key (get_or xs k d) = sep 0 (suc k) d (omega arith) (omega (arith, h)) in omega (arith, e, inside)) in
+    rw (and_right (leb (key x) a) (leb b (end x)) reach, reach) (none_wholly key end xs a b past)
+wholly_case key end x xs a b false e sep lt is reach rest = rw (unspanned (key x) (end x) a b (leb (key x) a) lt refl is) rest
+
+-- of ranges apart, the one that holds all of a range is the one that covers its first number, if that reaches to its end
+pub find_wholly : {X : Type 0} (key end : X → ℕ) (xs : List X) (a b : ℕ) → AllPairs (λ x y. end x ≤ key y) xs → a < b → find (wholly key end a b) xs ≡ option_and_then (reaching end b) (find (spans key end a) xs)
+find_wholly key end [] a b sep lt = refl
+find_wholly key end (x ∷ xs) a b sep lt = wholly_case key end x xs a b (spans key end a x) (leb b (end x)) sep lt refl refl (find_wholly key end xs a b (tail_pairs (λ y z. end y ≤ key z) x xs sep) lt)
+
+pub pairs_drop : {X : Type 0} (R : X → X → Type 0) (n : ℕ) (xs : List X) → AllPairs R xs → AllPairs R (drop n xs)
+pairs_drop R zero xs h = h
+pairs_drop R (suc n) [] h = h
+pairs_drop R (suc n) (x ∷ xs) h = pairs_drop R n xs (tail_pairs R x xs h)

@@ -44,6 +44,9 @@ far_call_at texts funcs a = option_and_then (λ v. option_and_then (λ w. option
 unfoldable pub pair_at : List TextRange → List Func → ℕ → ℕ → Option ℕ
 pair_at texts funcs entry a = if is_inner texts funcs entry (a + 4) then far_call_at texts funcs a else None
 
+abbrev pub covers_part : ℕ → Part → Bool
+covers_part a p = nat_le (part_start p) a && nat_lt a (part_end p)
+
 -- all n bytes from an address on lie in the part
 abbrev pub holds : ℕ → ℕ → Part → Bool
 holds a n p = nat_le p.range.from a && nat_le (a + n) p.range.to

@@ -46,19 +46,23 @@ pub record IsFunc (texts : List TextRange) (f : Func) : Type 0 where
   pub inside : Any (λ t. (t.from ≤ f.from) × (f.to ≤ text_end t)) texts
 
 -- an address in the guest's space, in no part, in no text range and not in the 4 bytes after one
-pub record IsFree (p : Picture) (a : ℕ) : Type 0 where
+pub record IsFree (texts : List TextRange) (parts : List Part) (a : ℕ) : Type 0 where
   pub low : 0x1000 ≤ a
   pub high : a < 0x08000000
-  pub texts : All (λ t. (a < t.from) ⊎ (text_end t + 4 ≤ a)) p.texts
-  pub parts : All (λ s. (a < s.range.from) ⊎ (s.range.to ≤ a)) p.parts
+  pub no_text : All (λ t. (a < t.from) ⊎ (text_end t + 4 ≤ a)) texts
+  pub no_part : All (λ s. (a < s.range.from) ⊎ (s.range.to ≤ a)) parts
 
--- whole pages of free addresses, to which no JAL or branch of text goes
-pub record IsRegion (p : Picture) (r : Range) : Type 0 where
+-- the ends are multiples of the page
+pub record IsPaged (r : Range) : Type 0 where
   pub ordered : r.from ≤ r.to
   pub first : r.from % 4096 ≡ 0
   pub last : r.to % 4096 ≡ 0
-  pub free : (a : ℕ) → r.from ≤ a → a < r.to → IsFree p a
-  pub no_aims : All (λ a. (a < r.from) ⊎ (r.to ≤ a)) (targets p.texts)
+
+-- whole pages of free addresses, to which no JAL or branch of text goes
+pub record IsRegion (texts : List TextRange) (parts : List Part) (r : Range) : Type 0 where
+  pub pages : IsPaged r
+  pub free : (a : ℕ) → r.from ≤ a → a < r.to → IsFree texts parts a
+  pub no_aims : All (λ a. (a < r.from) ⊎ (r.to ≤ a)) (targets texts)
 
 pub record IsKept (p : Picture) : Type 0 where
   pub texts_fit : All IsText p.texts
@@ -67,7 +71,7 @@ pub record IsKept (p : Picture) : Type 0 where
   pub parts_rise : AllPairs (λ s t. s.range.to ≤ t.range.from) p.parts
   pub apart : All (λ s. All (LiesApart s) p.texts) p.parts
   pub entry_is_word : IsSome (word_at p.texts p.entry)
-  pub region : IsRegion p p.region
+  pub region : IsRegion p.texts p.parts p.region
   pub funcs_fit : All (IsFunc p.texts) p.funcs
   pub funcs_rise : AllPairs (λ f g. f.from < g.from) p.funcs
   pub few_funcs : length p.funcs < 2 ^ 32

@@ -1,12 +1,14 @@
-//! Words by their address.
+//! Words and data by their address.
 
-ghost use Rattle.std.specs.Prelude.{◌≡◌, ◌<◌, ◌≤◌, ◌^◌, ◌+◌, length, slice_index_or, true, All, AllPairs, position, IfSome};
+ghost use Rattle.std.specs.Prelude.{◌≡◌, ◌<◌, ◌≤◌, ◌^◌, ◌+◌, length, slice_index_or, true, All, AllPairs, find, position, IfSome};
 ghost use Rattle.std.specs.Option.{option_copied};
 ghost use Rattle.image.specs.declared.ranges.TextRange.{TextRange as TextData};
 ghost use Rattle.image.specs.Texts.{text_start, text_end, covers, text_at, word_in, word_at, word_after};
-ghost use Rattle.image.specs.Picture.{IsText};
+ghost use Rattle.image.specs.declared.ranges.Part.{Part as PartData};
+ghost use Rattle.image.specs.Aims.{covers_part};
+ghost use Rattle.image.specs.Picture.{IsText, IsPart};
 
-use crate::ranges::TextRange;
+use crate::ranges::{Part, TextRange};
 use finite::search::place_covering;
 
 /// The text range that covers an address.
@@ -51,7 +53,8 @@ pub fn word_in(at: u64, t: &TextRange) -> Option<u32>
 pub fn word_at(texts: &[TextRange], at: u64) -> Option<u32>
     requires fit { All IsText texts.now }
     requires rise { AllPairs (λ s t. text_end s ≤ t.from) texts.now }
-    ensures { result ≡ word_at texts.now at }
+    ensures is { result ≡ word_at texts.now at }
+    ensures low { IfSome result (λ w. at < 0x08000000) }
 {
     let t = text_at(texts, at)?;
     word_in(at, t)
@@ -66,4 +69,28 @@ pub fn word_after(texts: &[TextRange], at: u64) -> Option<u32>
 {
     let t = text_at(texts, at)?;
     word_in(at + 4, t)
+}
+
+/// The part that covers an address.
+#[tactic(auto, using(finite::proofs::Finding::found_at, finite::proofs::Finding::find_nowhere))]
+pub fn part_at(parts: &[Part], at: u64) -> Option<&Part>
+    requires fit { All IsPart parts.now }
+    requires rise { AllPairs (λ s t. s.range.to ≤ t.range.from) parts.now }
+    ensures first { option_copied result ≡ find (covers_part at) parts.now }
+    ensures from { IfSome result (λ p. p.now.range.from ≤ at) }
+    ensures to { IfSome result (λ p. at < p.now.range.to) }
+    ensures high { IfSome result (λ p. p.now.range.to ≤ 0x08000000) }
+{
+    let i = place_of_part(parts, at)?;
+    Some(&parts[i])
+}
+
+fn place_of_part(parts: &[Part], at: u64) -> Option<usize>
+    requires fit { All IsPart parts.now }
+    requires rise { AllPairs (λ s t. s.range.to ≤ t.range.from) parts.now }
+    ensures place { result ≡ position (covers_part at) parts.now }
+    ensures within { IfSome result (λ i. i < length parts.now) }
+    ensures covers { IfSome result (λ i. (d : PartData) → covers_part at (slice_index_or parts.now i d) ≡ true) }
+{
+    place_covering(parts, at)
 }

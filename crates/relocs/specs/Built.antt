@@ -1,5 +1,5 @@
 -- The faults of an executable and a region, in their order, and the image of one without a fault.
-use Rattle.std.specs.Prelude.{◌≡◌, ℕ, ◌+◌, ◌-◌, ◌*◌, ◌/◌, ◌<◌, ◌≤◌, Bool, not, ◌==◌, ◌&&◌, nat_le, nat_lt, bit_and, List, [], ◌∷◌, ◌++◌, length, map, take, drop, find, AllPairs, Option, Some, None, if◌then◌else◌}
+use Rattle.std.specs.Prelude.{◌≡◌, ℕ, ◌+◌, ◌-◌, ◌*◌, ◌/◌, ◌<◌, ◌≤◌, Bool, false, not, ◌==◌, ◌&&◌, nat_le, nat_lt, bit_and, List, [], ◌∷◌, ◌++◌, length, map, take, drop, find, AllPairs, Option, Some, None, if◌then◌else◌}
 use Rattle.std.specs.List.{flat_map}
 use Rattle.std.specs.List.Sorted.{IsPermutation}
 use Rattle.std.specs.Option.{option_map, option_map_or}
@@ -66,7 +66,7 @@ gaps a to (t ∷ ts) = if is_within a to t then piece a t.from ++ gaps (text_end
 
 -- a piece of a segment: its flag 4 says readable and 2 writable
 unfoldable pub part_of : Segment → ℕ × ℕ → Part
-part_of g (a, b) = record { range = record { from = a; to = b }; read = not (bit_and g.flags 4 == 0); write = not (bit_and g.flags 2 == 0); bytes = take (b - a) (drop (a - g.at) g.bytes) }
+part_of g r = record { range = record { from = r.0; to = r.1 }; read = not (bit_and g.flags 4 == 0); write = not (bit_and g.flags 2 == 0); bytes = take (r.1 - r.0) (drop (r.0 - g.at) g.bytes) }
 
 -- a segment without its text ranges
 unfoldable pub parts_in : List TextRange → Segment → List Part
@@ -92,13 +92,21 @@ pub record IsInOrder {X : Type 0} (key : X → ℕ) (xs ys : List X) : Type 0 wh
   pub same : IsPermutation xs ys
   pub rise : AllPairs (λ x y. key x < key y) ys
 
-pub record IsImage (elf : Elf) (region : Range) (p : Picture) : Type 0 where
+pub record IsImage (elf : Elf) (r : Range) (p : Picture) : Type 0 where
   pub texts : IsInOrder text_start (texts_of elf) p.texts
   pub parts : IsInOrder part_start (parts_of elf p.texts) p.parts
   pub entry : p.entry ≡ elf.entry
-  pub region : p.region ≡ region
+  pub region : p.region ≡ r
   pub funcs : Lists (end_at p.texts elf.symbols) (map func_entry p.funcs)
   pub sites : Lists (aim_at is_call (site_at p.texts p.funcs) elf.relocs) (map aim_entry p.sites)
   pub pairs : Lists (aim_at is_far (pair_at p.texts p.funcs p.entry) elf.relocs) (map aim_entry p.pairs)
   pub slots : Lists (aim_at (is_stored elf.symbols p.parts) (slot_at p.parts p.funcs) elf.relocs) (map aim_entry p.slots)
   pub headers : p.headers ≡ headers_of elf
+
+-- no fault stands
+pub record IsFaultless (elf : Elf) (r : Range) : Type 0 where
+  pub aligned : first_misaligned (text_sections elf) ≡ None
+  pub inside : first_outside elf.segments (text_sections elf) ≡ None
+  pub entered : is_entry_outside (text_sections elf) elf.entry ≡ false
+  pub free : first_taken elf.segments (text_sections elf) r ≡ None
+  pub unaimed : least_aimed (texts_of elf) r ≡ None

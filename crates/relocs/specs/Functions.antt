@@ -1,5 +1,5 @@
 -- Functions: the set of ranges that symbols name.
-use Rattle.std.specs.Prelude.{ℕ, ◌+◌, ◌%◌, Bool, not, ◌==◌, ◌&&◌, nat_lt, nat_le, max, List, map, filter, Option}
+use Rattle.std.specs.Prelude.{ℕ, ◌+◌, ◌%◌, Bool, not, ◌==◌, ◌&&◌, nat_lt, nat_le, max, List, map, filter, Option, Some, None}
 use Rattle.std.specs.List.{list_any, reduce}
 use Rattle.elf_read.specs.declared.elf.Symbol.{Symbol}
 use Rattle.image.specs.declared.ranges.TextRange.{TextRange}
@@ -27,3 +27,8 @@ end_at texts symbols from = reduce max (map symbol_end (filter (λ s. is_functio
 
 abbrev pub func_entry : Func → ℕ × ℕ
 func_entry f = (f.from, f.to)
+
+-- the greater of two ends
+abbrev pub greater : Option ℕ → ℕ → Option ℕ
+greater None end = Some end
+greater (Some known) end = Some (max known end)

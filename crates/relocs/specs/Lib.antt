@@ -1,4 +1,5 @@
 pub mod Built
+pub mod Cover
 pub mod Functions
 pub mod Named
 pub mod Regions

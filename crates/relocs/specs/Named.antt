@@ -1,5 +1,5 @@
 -- The places that relocations name. The numbers of the relocations are those of the RISC-V ELF psABI.
-use Rattle.std.specs.Prelude.{ℕ, ◌+◌, ◌%◌, ℤ, pos, Bool, false, ◌==◌, ◌&&◌, ◌||◌, nat_eq, nat_le, List, [], ◌∷◌, Option, None, if◌then◌else◌}
+use Rattle.std.specs.Prelude.{ℕ, ◌+◌, ◌-◌, ◌%◌, ◌^◌, min, unsigned_abs, Bool, false, ◌==◌, ◌&&◌, ◌||◌, nat_eq, nat_le, List, [], ◌∷◌, Option, None, if◌then◌else◌}
 use Rattle.std.specs.List.{list_any, slice_get, starts_with}
 use Rattle.std.specs.Option.{option_map_or}
 use Rattle.elf_read.specs.declared.tables.Reloc.{Reloc}
@@ -39,6 +39,10 @@ is_table s = s.info % 16 == 1 && starts_with nat_eq s.name virtual_table
 abbrev pub in_table : ℕ → Symbol → Bool
 in_table a s = is_table s && (nat_le s.value a && nat_le (a + 8) (symbol_end s))
 
+-- its range of addresses of 64 bits
+abbrev pub table_range : Symbol → ℕ × ℕ
+table_range s = (s.value, min (symbol_end s) (2 ^ 64 - 1))
+
 -- the 8 bytes from an address on lie in a virtual table
 unfoldable pub is_tabled : List Symbol → ℕ → Bool
 is_tabled symbols a = list_any (in_table a) symbols
@@ -49,4 +53,4 @@ is_kept parts a s = s.info % 16 == 2 && option_map_or (λ v. v == s.value) (stor
 
 -- R_RISCV_64 with no addend, in a virtual table, of the function that is stored there
 unfoldable pub is_stored : List Symbol → List Part → Reloc → Bool
-is_stored symbols parts r = r.kind == 2 && (r.addend == pos 0 && (option_map_or (is_kept parts r.at) (slice_get symbols r.symbol) false && is_tabled symbols r.at))
+is_stored symbols parts r = r.kind == 2 && (unsigned_abs r.addend == 0 && (option_map_or (is_kept parts r.at) (slice_get symbols r.symbol) false && is_tabled symbols r.at))

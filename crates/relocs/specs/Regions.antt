@@ -1,5 +1,5 @@
 -- The region, and what can be wrong with it.
-use Rattle.std.specs.Prelude.{ℕ, ◌+◌, ◌-◌, ◌*◌, ◌/◌, Bool, false, ◌&&◌, ◌||◌, nat_le, nat_lt, min, max, List, map, filter, find, Option, Some, None}
+use Rattle.std.specs.Prelude.{◌≡◌, ◌≤◌, ◌<◌, ◌^◌, ◌++◌, ◌∷◌, [], true, ℕ, ◌+◌, ◌-◌, ◌*◌, ◌/◌, Bool, false, ◌&&◌, ◌||◌, nat_le, nat_lt, min, max, List, map, filter, find, Option, Some, None}
 use Rattle.std.specs.List.{list_any, range_with_len, fold, flat_map, reduce}
 use Rattle.std.specs.Option.{option_map_or}
 use Rattle.oc_base.specs.declared.range.Range.{Range}
@@ -53,6 +53,35 @@ is_aimed region e = option_map_or (is_between region.from region.to) (direct_tar
 abbrev pub address_of : ℕ × ℕ → ℕ
 address_of e = e.0
 
+-- the least address of the words that go into the region
+unfoldable pub least_of : Range → List (ℕ × ℕ) → Option ℕ
+least_of region words = reduce min (map address_of (filter (is_aimed region) words))
+
 -- the least address of a JAL or branch of text that goes into the region
 unfoldable pub least_aimed : List TextRange → Range → Option ℕ
-least_aimed texts region = reduce min (map address_of (filter (is_aimed region) (flat_map text_words texts)))
+least_aimed texts region = least_of region (flat_map text_words texts)
+
+-- ---- the same by ranges
+
+abbrev pub segment_range : Segment → Range
+segment_range g = record { from = g.at; to = segment_end g }
+
+abbrev pub after_section : Section → Range
+after_section s = record { from = section_end s; to = section_end s + 4 }
+
+-- the ranges of taken addresses below the last of 64 bits
+unfoldable pub taken_ranges : List Segment → List Section → List Range
+taken_ranges segments texts = ((map segment_range segments ++ map after_section texts) ++ record { from = 0; to = 0x1000 } ∷ []) ++ record { from = 0x08000000; to = 2 ^ 64 - 1 } ∷ []
+
+abbrev pub in_range : ℕ → Range → Bool
+in_range a r = is_between r.from r.to a
+
+-- an address of the region in one of the ranges
+abbrev pub Shares : List Range → Range → ℕ → Type 0
+Shares ranges region a = (region.from ≤ a) × (a < region.to) × (list_any (in_range a) ranges ≡ true)
+
+-- the lesser of two, where there are any
+abbrev pub lesser : Option ℕ → Option ℕ → Option ℕ
+lesser None o = o
+lesser (Some a) None = Some a
+lesser (Some a) (Some b) = Some (min a b)

@@ -1,7 +1,7 @@
 -- The text sections of an executable, and what can be wrong with them.
 use Rattle.std.specs.Prelude.{ℕ, ◌+◌, ◌%◌, Bool, false, not, ◌==◌, ◌&&◌, ◌||◌, nat_le, nat_lt, bit_and, List, length, take, filter, find, Option}
 use Rattle.std.specs.List.{list_any, range_with_len, slice_get}
-use Rattle.std.specs.Option.{option_map, option_map_or, option_and_then}
+use Rattle.std.specs.Option.{option_map, option_map_or}
 use Rattle.elf_read.specs.declared.elf.Elf.{Elf}
 use Rattle.elf_read.specs.declared.elf.Section.{Section}
 use Rattle.elf_read.specs.declared.elf.Segment.{Segment}
@@ -45,12 +45,12 @@ is_outside segments earlier s = not (list_any (has_bytes s.at (section_end s)) s
 abbrev pub is_outside_at : List Segment → List Section → ℕ → Bool
 is_outside_at segments texts i = option_map_or (is_outside segments (take i texts)) (slice_get texts i) false
 
-abbrev pub start_at : List Section → ℕ → Option ℕ
-start_at texts i = option_map section_start (slice_get texts i)
+abbrev pub start_at : List Section → ℕ → ℕ
+start_at texts i = option_map_or section_start (slice_get texts i) 0
 
 -- the address of the first of them
 unfoldable pub first_outside : List Segment → List Section → Option ℕ
-first_outside segments texts = option_and_then (start_at texts) (find (is_outside_at segments texts) (range_with_len 0 (length texts)))
+first_outside segments texts = option_map (start_at texts) (find (is_outside_at segments texts) (range_with_len 0 (length texts)))
 
 abbrev pub covers : ℕ → Section → Bool
 covers a s = nat_le s.at a && nat_lt a (section_end s)

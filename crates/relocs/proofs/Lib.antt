@@ -1,0 +1,11 @@
+pub mod AimLemmas
+pub mod CoverLemmas
+pub mod FunctionLemmas
+pub mod Regional
+pub mod RuleLemmas
+pub mod TargetLemmas
+pub mod SlotLemmas
+pub mod GapLemmas
+pub mod PartLemmas
+pub mod TextLemmas
+pub mod Builds
