@@ -1,13 +1,8 @@
 -- The bytes that the guest can read: those of the image's data parts with the right to read. Past its bytes a part is zero.
-use Rattle.std.specs.Prelude.{ℕ, zero, suc, ◌+◌, ◌-◌, List, [], ◌∷◌, ◌++◌, find, nat_le, nat_lt, ◌&&◌, Bool, Option, Some, None, option_and_then, if◌then◌else◌}
+use Rattle.std.specs.Prelude.{ℕ, zero, suc, ◌+◌, ◌-◌, List, [], ◌∷◌, ◌++◌, find, Option, Some, None, option_and_then, if◌then◌else◌}
 use Rattle.std.specs.List.{slice_index_or}
 use Rattle.image.specs.declared.ranges.Part.{Part}
-
-abbrev pub covers : ℕ → Part → Bool
-covers a part = nat_le part.range.from a && nat_lt a part.range.to
-
-abbrev pub part_at : List Part → ℕ → Option Part
-part_at parts a = find (covers a) parts
+use Rattle.image.specs.Aims.{covers_part}
 
 abbrev pub byte_in : Part → ℕ → ℕ
 byte_in part a = slice_index_or part.bytes (a - part.range.from) 0
@@ -17,7 +12,7 @@ if_readable a part = if part.read then Some (byte_in part a) else None
 
 -- the byte at an address, where it can be read
 unfoldable pub byte_at : List Part → ℕ → Option ℕ
-byte_at parts a = option_and_then (if_readable a) (part_at parts a)
+byte_at parts a = option_and_then (if_readable a) (find (covers_part a) parts)
 
 abbrev pub followed_by : Option (List ℕ) → Option ℕ → Option (List ℕ)
 followed_by (Some bytes) (Some byte) = Some (bytes ++ byte ∷ [])

@@ -1,14 +1,11 @@
 //! What the guest reads: the bytes of the image's readable data.
 
-ghost use Rattle.std.specs.Prelude.{◌≡◌, ◌<◌, ◌≤◌, length, slice_index_or, true, All, AllPairs, position, IfOk, IfSome};
-ghost use Rattle.std.specs.Option.{option_copied};
-ghost use Rattle.image.specs.declared.ranges.Part.{Part as PartData};
-ghost use Rattle.image.specs.Picture.{IsPart};
-ghost use Rattle.play.specs.Data.{covers, part_at, byte_in, byte_at, bytes_at};
+ghost use Rattle.std.specs.Prelude.{◌≡◌, ◌<◌, ◌≤◌, IfOk, IfSome};
+ghost use Rattle.play.specs.Data.{byte_in, byte_at, bytes_at};
 
-use finite::search::place_covering;
 use image::picture::Image;
 use image::ranges::Part;
+use image::texts::part_at;
 use oc_base::fault::NoMemory;
 use oc_base::items::Items;
 use std::alloc::Global;
@@ -23,30 +20,6 @@ fn byte_in(part: &Part, at: u64) -> u8
         Some(byte) => *byte,
         None => 0,
     }
-}
-
-fn place_of_part(parts: &[Part], at: u64) -> Option<usize>
-    requires fit { All IsPart parts.now }
-    requires rise { AllPairs (λ s t. s.range.to ≤ t.range.from) parts.now }
-    ensures place { result ≡ position (covers at) parts.now }
-    ensures within { IfSome result (λ i. i < length parts.now) }
-    ensures covers { IfSome result (λ i. (d : PartData) → covers at (slice_index_or parts.now i d) ≡ true) }
-{
-    place_covering(parts, at)
-}
-
-// The part that covers an address.
-#[tactic(auto, using(finite::proofs::Finding::found_at, finite::proofs::Finding::find_nowhere))]
-fn part_at(parts: &[Part], at: u64) -> Option<&Part>
-    requires fit { All IsPart parts.now }
-    requires rise { AllPairs (λ s t. s.range.to ≤ t.range.from) parts.now }
-    ensures first { option_copied result ≡ part_at parts.now at }
-    ensures from { IfSome result (λ p. p.now.range.from ≤ at) }
-    ensures to { IfSome result (λ p. at < p.now.range.to) }
-    ensures high { IfSome result (λ p. p.now.range.to ≤ 0x08000000) }
-{
-    let i = place_of_part(parts, at)?;
-    Some(&parts[i])
 }
 
 // The byte at an address, where it can be read.

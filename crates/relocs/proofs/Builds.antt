@@ -164,9 +164,9 @@ all_cuts elf r ts whole ok moved i d lt =
     let sections = all_sections elf ok.aligned ok.inside in
     let g = get_or elf.segments i d in
     All-permutation (Cuts g.at (segment_end g)) (map (text_of elf.segments) (text_sections elf)) ts moved (All-map (Cuts g.at (segment_end g)) (text_of elf.segments) (text_sections elf) (λ k e k_lt. (
-        let s = get_or (text_sections elf) k e in
-        let h = sections k e k_lt in
-        text_cuts elf.segments s g h (section_cuts elf.segments s i d whole.each whole.apart lt h.held))))
+    let s = get_or (text_sections elf) k e in
+    let h = sections k e k_lt in
+    text_cuts elf.segments s g h (section_cuts elf.segments s i d whole.each whole.apart lt h.held))))
 
 -- ---- no word goes into the region
 
@@ -413,9 +413,9 @@ free_there elf r ts ps whole ok moved parts a low high =
     let three = both_fail (ltb a 0x1000) (leb 0x08000000 a) two.1 in
     let sections = all_sections elf ok.aligned ok.inside in
     let no_text : All (λ t. (a < t.from) ⊎ (text_end t + 4 ≤ a)) (map (text_of gs) ss) = All-map (λ t. (a < t.from) ⊎ (text_end t + 4 ≤ a)) (text_of gs) ss (λ i d lt. (
-        let s = get_or ss i d in
-        let h = sections i d lt in
-        ranged gs s a h (clear_text s a (clear_section gs s a whole.each one.0 h.held) (any_none (follows a) ss i d two.0 lt) h.some))) in
+    let s = get_or ss i d in
+    let h = sections i d lt in
+    ranged gs s a h (clear_text s a (clear_section gs s a whole.each one.0 h.held) (any_none (follows a) ss i d two.0 lt) h.some))) in
     let no_part : All (λ p. (a < p.range.from) ⊎ (p.range.to ≤ a)) (flat_map (parts_in ts) gs) = all_parts (λ p. (a < p.range.from) ⊎ (p.range.to ≤ a)) ts gs (λ i d lt k e k_lt. free_part (get_or gs i d) (get_or (parts_in ts (get_or gs i d)) k e) a (parts_inside ts (get_or gs i d) k e k_lt) (any_none (in_segment a) gs i d one.0 lt)) in
     record {
       low = ltb-false _ _ three.0;

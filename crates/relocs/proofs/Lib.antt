@@ -9,3 +9,4 @@ pub mod GapLemmas
 pub mod PartLemmas
 pub mod TextLemmas
 pub mod Builds
+pub mod OneImage

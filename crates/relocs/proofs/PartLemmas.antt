@@ -52,8 +52,8 @@ within_case true a to t ts e h =
     let low = leb-true _ _ parts.0 in
     let high = leb-true _ _ parts.1 in
     All-append (Within a to) (piece a t.from) (gaps (text_end t) to ts)
-      (in_piece (Within a to) a t.from (λ lt. (omega arith, lt, omega (arith, high))))
-      (All-weaken (Within (text_end t) to) (Within a to) (gaps (text_end t) to ts) (λ r w. (omega (arith, w.0, low), w.1, w.2)) (h (text_end t)))
+    (in_piece (Within a to) a t.from (λ lt. (omega arith, lt, omega (arith, high))))
+    (All-weaken (Within (text_end t) to) (Within a to) (gaps (text_end t) to ts) (λ r w. (omega (arith, w.0, low), w.1, w.2)) (h (text_end t)))
 within_case false a to t ts e h = h a
 
 gaps_within : (a to : ℕ) (ts : List TextRange) → All (Within a to) (gaps a to ts)
@@ -67,9 +67,9 @@ piece_apart a b false = tt
 apart_case : (c : Bool) (a to : ℕ) (t : TextRange) (ts : List TextRange) → ((b : ℕ) → IsApart (clash start_of end_of) (gaps b to ts)) → IsApart (clash start_of end_of) (cond c (piece a t.from ++ gaps (text_end t) to ts) (gaps a to ts))
 apart_case true a to t ts h =
     apart_append (clash start_of end_of) (piece a t.from) (gaps (text_end t) to ts) (piece_apart a t.from (ltb a t.from)) (h (text_end t))
-      (in_piece (λ x. list_any (clash start_of end_of x) (gaps (text_end t) to ts) ≡ false) a t.from (λ lt. list_any_none (clash start_of end_of (a, t.from)) (gaps (text_end t) to ts) (λ k d k_lt. (
-          let w = gaps_within (text_end t) to ts k d k_lt in
-          no_clash start_of end_of (a, t.from) (get_or (gaps (text_end t) to ts) k d) (inl (omega (arith, w.0)))))))
+    (in_piece (λ x. list_any (clash start_of end_of x) (gaps (text_end t) to ts) ≡ false) a t.from (λ lt. list_any_none (clash start_of end_of (a, t.from)) (gaps (text_end t) to ts) (λ k d k_lt. (
+    let w = gaps_within (text_end t) to ts k d k_lt in
+    no_clash start_of end_of (a, t.from) (get_or (gaps (text_end t) to ts) k d) (inl (omega (arith, w.0)))))))
 apart_case false a to t ts h = h a
 
 gaps_apart : (a to : ℕ) (ts : List TextRange) → IsApart (clash start_of end_of) (gaps a to ts)
@@ -92,8 +92,8 @@ later_cut a to t u le up (inr (inr inside)) = inr (inr (up, inside.1))
 clear_here : (c : Bool) (a to : ℕ) (t : TextRange) (ts : List TextRange) → is_within a to t ≡ c → Cuts a to t → All (IsClear t) (cond c (piece a t.from ++ gaps (text_end t) to ts) (gaps a to ts))
 clear_here true a to t ts e cut =
     All-append (IsClear t) (piece a t.from) (gaps (text_end t) to ts)
-      (in_piece (IsClear t) a t.from (λ lt. inl (omega arith)))
-      (All-weaken (Within (text_end t) to) (IsClear t) (gaps (text_end t) to ts) (λ r w. inr w.0) (gaps_within (text_end t) to ts))
+    (in_piece (IsClear t) a t.from (λ lt. inl (omega arith)))
+    (All-weaken (Within (text_end t) to) (IsClear t) (gaps (text_end t) to ts) (λ r w. inr w.0) (gaps_within (text_end t) to ts))
 clear_here false a to t ts e (inl before) = All-weaken (Within a to) (IsClear t) (gaps a to ts) (λ r w. inr (omega (arith, w.0, before))) (gaps_within a to ts)
 clear_here false a to t ts e (inr (inl past)) = All-weaken (Within a to) (IsClear t) (gaps a to ts) (λ r w. inl (omega (arith, w.2, past))) (gaps_within a to ts)
 clear_here false a to t ts e (inr (inr inside)) = absurd (let i = and_from _ _ (le-leb a t.from inside.0) (le-leb (text_end t) to inside.1) in cc)
@@ -173,7 +173,7 @@ parts_apart ts [] sep = tt
 parts_apart ts (g ∷ gs) sep =
     let cross : (p : Part) → InSegment g p → All (λ q. clash part_start part_end p q ≡ false) (flat_map (parts_in ts) gs) = λ p a. all_parts (λ q. clash part_start part_end p q ≡ false) ts gs (λ i d lt k e k_lt. outside_segment g (get_or gs i d) p (get_or (parts_in ts (get_or gs i d)) k e) (sep 0 (suc i) d (omega arith) (omega (arith, lt))) a (parts_inside ts (get_or gs i d) k e k_lt)) in
     apart_append (clash part_start part_end) (parts_in ts g) (flat_map (parts_in ts) gs) (parts_apart_in ts g) (parts_apart ts gs (tail_pairs AreApart g gs sep))
-      (All-weaken (InSegment g) (λ p. list_any (clash part_start part_end p) (flat_map (parts_in ts) gs) ≡ false) (parts_in ts g) (λ p a. list_any_none (clash part_start part_end p) (flat_map (parts_in ts) gs) (cross p a)) (parts_inside ts g))
+    (All-weaken (InSegment g) (λ p. list_any (clash part_start part_end p) (flat_map (parts_in ts) gs) ≡ false) (parts_in ts g) (λ p a. list_any_none (clash part_start part_end p) (flat_map (parts_in ts) gs) (cross p a)) (parts_inside ts g))
 
 pub parts_fit : (ts : List TextRange) (gs : List Segment) → All IsSegment gs → All IsPart (flat_map (parts_in ts) gs)
 parts_fit ts gs fit = all_parts IsPart ts gs (λ i d lt. parts_fit_in ts (get_or gs i d) (fit i d lt))

@@ -8,6 +8,7 @@ pub mod cover;
 pub mod fault;
 pub mod functions;
 pub mod jumps;
+pub mod one;
 pub mod parts;
 pub mod region;
 pub mod rules;

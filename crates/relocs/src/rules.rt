@@ -110,13 +110,7 @@ fn is_inner(texts: &[TextRange], funcs: &[Func], entry: u64, targets: &[u64], at
 
 /// The function that a pair at an address calls.
 #[tactic(auto, unfolding(image::specs::Aims::pair_at))]
-fn pair_at(
-    texts: &[TextRange],
-    funcs: &[Func],
-    entry: u64,
-    targets: &[u64],
-    at: u64,
-) -> Option<u32>
+fn pair_at(texts: &[TextRange], funcs: &[Func], entry: u64, targets: &[u64], at: u64) -> Option<u32>
     requires fit { All IsText texts.now }
     requires rise { AllPairs (λ s t. text_end s ≤ t.from) texts.now }
     requires funcs_rise { AllPairs (λ f g. f.from < g.from) funcs.now }

@@ -9,8 +9,8 @@ ghost use Rattle.image.specs.Texts.{text_start};
 ghost use Rattle.relocs.specs.Sections.{has_bytes};
 ghost use Rattle.relocs.specs.Built.{words_at, text_of};
 
-use elf_read::elf::{Section, Segment};
 use crate::sections::has_bytes;
+use elf_read::elf::{Section, Segment};
 use elf_read::fields::u32_at;
 use image::ranges::TextRange;
 use oc_base::fault::NoMemory;
@@ -19,7 +19,12 @@ use std::alloc::Global;
 
 /// Words from a place of a segment's bytes on.
 #[tactic(auto, using(elf_read::proofs::Loops::table_more, elf_read::proofs::Loops::table_none))]
-fn read_words(alloc: Global, bytes: &[u8], from: usize, count: usize) -> Result<Items<u32>, NoMemory>
+fn read_words(
+    alloc: Global,
+    bytes: &[u8],
+    from: usize,
+    count: usize,
+) -> Result<Items<u32>, NoMemory>
     requires { from + 4 * count ≤ length bytes.now }
     ensures { IfOk result (λ v. v ≡ table 4 u32_at bytes.now from count) }
 {
