@@ -1,5 +1,5 @@
 -- Where a byte can't be read, no more bytes can.
-use Rattle.std.proofs.Common.{◌≡◌, ℕ, zero, suc, ◌+◌, List, Option, None, ap, ◌∙◌, arith}
+use Rattle.std.proofs.Common.{◌≡◌, ℕ, zero, suc, ◌+◌, List, None, ap, ◌∙◌, arith}
 use Rattle.image.specs.declared.ranges.Part.{Part}
 use Rattle.play.specs.Data.{bytes_at, byte_at, followed_by}
 

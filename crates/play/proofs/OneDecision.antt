@@ -1,5 +1,5 @@
 -- Words and files ask for one thing.
-use Rattle.std.proofs.Common.{◌≡◌, ℕ, List, Option, Some, None, Result, Ok, Err, refl, ap, sym, ◌∙◌}
+use Rattle.std.proofs.Common.{◌≡◌, ℕ, List, Result, Ok, Err, ap, sym, ◌∙◌}
 use Rattle.oc_base.specs.Outside.{Disk}
 use Rattle.image.specs.Picture.{Picture}
 use Rattle.elf_read.specs.Parts.{parts_of}

@@ -1,5 +1,5 @@
 -- A run that has ended stays as it is.
-use Rattle.std.proofs.Common.{◌≡◌, ℕ, zero, suc, ◌+◌, Bool, true, Option, Some, None, ap, refl, ◌∙◌, arith, is_some}
+use Rattle.std.proofs.Common.{◌≡◌, ℕ, zero, suc, ◌+◌, true, Option, Some, None, ap, refl, ◌∙◌, arith, is_some}
 use Rattle.play.specs.declared.machine.Machine.{Machine}
 use Rattle.play.specs.declared.answer.Outcome.{Outcome}
 use Rattle.image.specs.Picture.{Picture}

@@ -1,6 +1,6 @@
 -- The machine of the first path: one hart of an image, of which a step runs ADDI, LUI or ECALL (The RISC-V Instruction Set Manual, volume I).
 -- What a step does is a value, an Effect, and a second definition says what becomes of the machine by it.
-use Rattle.std.specs.Prelude.{◌≡◌, ℕ, zero, suc, ◌+◌, ◌-◌, ◌*◌, ◌%◌, ◌^◌, ◌<◌, Bool, true, false, List, [], ◌++◌, length, take, drop, Option, Some, None, nat_lt, nat_le, ◌==◌, ◌&&◌, ◌||◌, if◌then◌else◌, slice_index, slice_set, replicate}
+use Rattle.std.specs.Prelude.{ℕ, zero, suc, ◌+◌, ◌-◌, ◌*◌, ◌%◌, ◌^◌, Bool, true, false, List, [], ◌++◌, length, Option, Some, None, nat_le, ◌==◌, if◌then◌else◌, slice_index, slice_set, replicate}
 use Rattle.rv_isa.specs.Decoded.{decoded}
 use Rattle.rv_isa.specs.declared.instr.Instr.{Instr}
 use Rattle.rv_isa.specs.declared.instr.Instr.TheVariants.{AluImm, Lui, Ecall}

@@ -1,4 +1,4 @@
-use Rattle.std.proofs.Common.{◌≡◌, ◌+◌, ◌<◌, ◌^◌, Some}
+use Rattle.std.proofs.Common.{◌≡◌, ◌+◌, Some}
 use Rattle.play.specs.Data.{bytes_at}
 use Rattle.play.proofs.data.bytes_at.Given as goal
 
