@@ -15,4 +15,6 @@ pub mod rules;
 pub mod sections;
 pub mod slots;
 pub mod targets;
+#[cfg(test)]
+mod tests;
 pub mod texts;

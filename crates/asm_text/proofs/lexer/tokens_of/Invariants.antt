@@ -1,0 +1,7 @@
+use Rattle.std.proofs.Common.{◌≡◌, ◌++◌, [], drop}
+use Rattle.asm_text.specs.Tokens.{tokens}
+use Rattle.asm_text.specs.declared.token.Mode.TheVariants.{Plain}
+use Rattle.asm_text.proofs.lexer.tokens_of.Given as goal
+
+abbrev pub invariant-loop-i : goal.invariant-loop-i
+invariant-loop-i l = l.lexer.all.items ++ tokens l.lexer.mode l.lexer.word.items (drop l.i l.line) ≡ tokens Plain [] l.line

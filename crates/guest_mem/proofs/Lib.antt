@@ -1,0 +1,5 @@
+pub mod FlatLaws
+pub mod Laws
+pub mod LinkLaws
+pub mod PutLaws
+pub mod Reading

@@ -1,0 +1,16 @@
+//! Tagged memory of a guest: bytes, one tag for each aligned word of 8 bytes, and rights for each byte.
+//!
+//! `GuestStore` is what the crates above see, and `specs/Access.antt` says what its calls find and leave. `FlatMem`
+//! meets it by ordered maps. Loads, stores, transfers and clearing are written once, over the few calls of `WordStore`.
+#![tactic(auto)]
+
+mod access;
+mod bytes;
+mod clearing;
+pub mod fault;
+pub mod flat;
+pub mod store;
+#[cfg(test)]
+mod tests;
+mod transfer;
+pub mod words;

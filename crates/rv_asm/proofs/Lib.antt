@@ -1,0 +1,6 @@
+pub mod Before
+pub mod Kept
+pub mod Named
+pub mod Sizes
+pub mod Walk
+pub mod Words

@@ -1,0 +1,16 @@
+use Rattle.std.proofs.Common.{◌≡◌, ◌≤◌, ◌*◌, ◌++◌, drop}
+use Rattle.std.specs.List.{All}
+use Rattle.rv_asm.specs.State.{start, collect}
+use Rattle.rv_asm.specs.Emission.{object}
+use Rattle.rv_asm.specs.Kept.{IsSound, IsBefore}
+use Rattle.rv_asm.proofs.emit.objects_of.Given as goal
+
+abbrev pub invariant-loop-i : goal.invariant-loop-i
+invariant-loop-i l = record {
+  list : l.all.items ++ collect (object l.base) l.state (drop l.i l.items) ≡ collect (object l.base) start l.items;
+  sound : All IsSound l.all.items;
+  before : IsBefore l.state.object l.state.data_len;
+  text_len : l.state.text_len ≤ 33554432 * l.i;
+  data_len : l.state.data_len ≤ 33554432 * l.i;
+  funcs : l.state.funcs ≤ l.i;
+}

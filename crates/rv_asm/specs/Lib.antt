@@ -1,0 +1,7 @@
+pub mod State
+pub mod Order
+pub mod Names
+pub mod Faults
+pub mod Emission
+pub mod Kept
+pub mod Assembly
