@@ -45,5 +45,9 @@ pub fn steps_in(script: &[u8]) -> Option<u32>
     let Some(steps) = number_of(digits) else {
         return None;
     };
-    if steps <= STEP_LIMIT { Some(steps) } else { None }
+    if steps <= STEP_LIMIT {
+        Some(steps)
+    } else {
+        None
+    }
 }
