@@ -469,40 +469,30 @@ fn a_conditional_store_needs_its_block_and_gives_it_up(rt: HostRuntime) -> Resul
         (AT + 12, AT + 12, false, MAX, 0, 0x1_8000_0009),
         (AT, AT + 8, true, 0, 1, nine.number),
     ];
-    for (lr, sc, wide, loaded, failed, holds) in cases {
+    for (reserved, stored, wide, loaded, failed, holds) in cases {
         assert_eq!(rt; mem.store(AT + 8, Width::D, nine, &Same), Ok(()));
-        let mut hart = hart_with(Value::plain(lr), Value::plain(1));
-        let reserve = Instr::Lr {
-            wide,
-            order: ORDER,
-            rd: rd(),
-            rs1: rs1(),
-        };
-        let store = Instr::Sc {
-            wide,
-            order: ORDER,
-            rd: rd(),
-            rs1: rs1(),
-            rs2: rs2(),
-        };
+        let mut hart = hart_with(Value::plain(reserved), Value::plain(1));
         assert_eq!(rt;
-            acted(&mut hart, &mut mem, &Same, reserve),
+            acted(&mut hart, &mut mem, &Same, lr(wide)),
             Some(Acted::Next)
         );
         assert_eq!(rt; hart.reg(rd()), Value::plain(loaded));
-        assert_eq!(rt; hart.reservation, Some(lr / 8 * 8));
-        hart.set_reg(rs1(), Value::plain(sc));
+        assert_eq!(rt; hart.reservation, Some(reserved / 8 * 8));
+        hart.set_reg(rs1(), Value::plain(stored));
         let want = if failed == 0 {
             Acted::Stored { block: AT + 8 }
         } else {
             Acted::Next
         };
-        assert_eq!(rt; acted(&mut hart, &mut mem, &Same, store), Some(want));
+        assert_eq!(rt; acted(&mut hart, &mut mem, &Same, sc(wide)), Some(want));
         assert_eq!(rt; hart.reg(rd()), Value::plain(failed));
         assert_eq!(rt; hart.reservation, None);
         assert_eq!(rt; mem.load(AT + 8, Width::D, &Same), Ok(Value::plain(holds)));
         // a second one finds nothing
-        assert_eq!(rt; acted(&mut hart, &mut mem, &Same, store), Some(Acted::Next));
+        assert_eq!(rt;
+            acted(&mut hart, &mut mem, &Same, sc(wide)),
+            Some(Acted::Next)
+        );
         assert_eq!(rt; hart.reg(rd()), Value::plain(1));
     }
     Ok(())
@@ -556,6 +546,15 @@ fn swap(wide: bool) -> Instr {
     }
 }
 
+fn add() -> Instr {
+    Instr::Alu {
+        op: AluOp::Add,
+        rd: rd(),
+        rs1: rs1(),
+        rs2: rs2(),
+    }
+}
+
 fn trap(cause: u8, value: u64) -> Acted {
     Acted::Trap { cause, value }
 }
@@ -569,12 +568,6 @@ fn traps_and_reports_come_in_their_order_and_leave_the_hart(rt: HostRuntime) -> 
     assert_eq!(rt; mem.store(AT + 8, Width::D, link, &One), Ok(()));
     let zero = Imm12::new(0).unwrap();
     let four = Imm12::new(4).unwrap();
-    let add = Instr::Alu {
-        op: AluOp::Add,
-        rd: rd(),
-        rs1: rs1(),
-        rs2: rs2(),
-    };
     let compare = Instr::Branch {
         cond: Cond::Eq,
         rs1: rs1(),
@@ -638,8 +631,8 @@ fn traps_and_reports_come_in_their_order_and_leave_the_hart(rt: HostRuntime) -> 
         (swap(false), Value::plain(AT + 2), plain, trap(6, AT + 2)),
         (swap(true), Value::plain(AT + 32), plain, trap(7, AT + 32)),
         (swap(true), Value::plain(AT + 40), plain, trap(7, AT + 40)),
-        (add, link, plain, Acted::LinkUse { rule: 1 }),
-        (add, plain, link, Acted::LinkUse { rule: 1 }),
+        (add(), link, plain, Acted::LinkUse { rule: 1 }),
+        (add(), plain, link, Acted::LinkUse { rule: 1 }),
         (masked, link, plain, Acted::LinkUse { rule: 1 }),
         (compare, plain, link, Acted::LinkUse { rule: 2 }),
         (load_of(Width::D), link, plain, Acted::LinkUse { rule: 3 }),
