@@ -245,430 +245,209 @@ fn file(alloc: Global, g: &Guest<'_>) -> Result<Vec<u8>, AllocError> {
     Ok(out)
 }
 
-/// A change: the place, how many bytes, and their value.
-type Change = (usize, usize, u64);
+fn number(word: Option<&str>) -> u64 {
+    u64::from_str_radix(word.unwrap_or(""), 16).unwrap_or(0)
+}
 
-fn changed(alloc: Global, bytes: &[u8], changes: &[Change]) -> Result<Vec<u8>, AllocError> {
-    let mut out = Vec::from_slice(alloc, bytes)?;
-    for (at, width, value) in changes {
-        let new = value.to_le_bytes();
-        for i in 0..8 {
-            if i < *width
-                && let Some(byte) = out.get_mut(at.wrapping_add(i))
-            {
-                *byte = new[i];
-            }
+/// Writes a number of so many bytes, the lowest first.
+fn put(out: &mut [u8], at: usize, width: usize, value: u64) {
+    let new = value.to_le_bytes();
+    for i in 0..8 {
+        if i < width
+            && let Some(byte) = out.get_mut(at.wrapping_add(i))
+        {
+            *byte = new[i];
         }
+    }
+}
+
+/// The bytes with changes, each a place, a number of bytes and their value.
+fn changed(alloc: Global, bytes: &[u8], changes: &str) -> Result<Vec<u8>, AllocError> {
+    let mut out = Vec::from_slice(alloc, bytes)?;
+    for change in changes.split(',') {
+        let mut words = change.split_whitespace();
+        let at = number(words.next());
+        let width = number(words.next());
+        let value = number(words.next());
+        put(&mut out, at as usize, width as usize, value);
     }
     Ok(out)
 }
 
-#[derive(Clone, Copy, Debug, PartialEq, Eq)]
-enum Answer {
-    Elf(ElfFault),
-    Image(ImageFault),
-    /// How many functions, sites, pairs and slots there are.
-    Has(usize, usize, usize, usize),
+fn elf_text(alloc: Global, fault: ElfFault) -> Result<String, AllocError> {
+    let (number, value) = match fault {
+        ElfFault::NotElf => (1, 0),
+        ElfFault::NotRiscv64Exec => (2, 0),
+        ElfFault::Compressed => (3, 0),
+        ElfFault::FloatAbi => (4, 0),
+        ElfFault::Truncated(offset) => (5, offset),
+        ElfFault::BadSegment(i) => (6, i as u64),
+        ElfFault::TooLarge => (7, 0),
+        ElfFault::NoText => (8, 0),
+        ElfFault::NoSymbols => (9, 0),
+        ElfFault::NoMemory => (0, 0),
+    };
+    format!(in alloc; "elf {number} {value:x}")
 }
 
-fn answer_of(alloc: Global, bytes: &[u8]) -> Answer {
+fn image_text(alloc: Global, fault: ImageFault) -> Result<String, AllocError> {
+    let (number, at) = match fault {
+        ImageFault::TextMisaligned(at) => (1, at),
+        ImageFault::TextOutside(at) => (2, at),
+        ImageFault::EntryOutside(at) => (3, at),
+        ImageFault::RegionOverlap(at) => (4, at),
+        ImageFault::RegionAimed(at) => (5, at),
+        ImageFault::NoMemory => (0, 0),
+    };
+    format!(in alloc; "image {number} {at:x}")
+}
+
+fn counts_text(alloc: Global, image: &Image) -> Result<String, AllocError> {
+    let (funcs, sites) = (image.funcs().len(), image.sites().len());
+    let (pairs, slots) = (image.pairs().len(), image.slots().len());
+    format!(in alloc; "{funcs} functions {sites} sites {pairs} pairs {slots} slots")
+}
+
+/// The fault of a file, or how many functions, sites, pairs and slots its image has.
+fn answer(alloc: Global, bytes: &[u8]) -> Result<String, AllocError> {
     let elf = match read_elf(alloc, bytes) {
         Ok(elf) => elf,
-        Err(fault) => return Answer::Elf(fault),
+        Err(fault) => return elf_text(alloc, fault),
     };
     match build_image(alloc, &elf, None) {
-        Ok(image) => Answer::Has(
-            image.funcs().len(),
-            image.sites().len(),
-            image.pairs().len(),
-            image.slots().len(),
-        ),
-        Err(fault) => Answer::Image(fault),
+        Ok(image) => counts_text(alloc, &image),
+        Err(fault) => image_text(alloc, fault),
     }
 }
 
-const FINE: Answer = Answer::Has(2, 0, 0, 1);
+/// Cases of the guest with a virtual table, one a line: what it is, its changes, and the answer that is wanted. All numbers are
+/// hexadecimal. The file has 22d0 bytes, symbols at 2008, relocations at 2078 and section headers at 20d0.
+const FILE_CASES: &str = "\
+whole:  = 2 functions 0 sites 0 pairs 1 slots
+first byte: 0 1 7e = elf 1 0
+fourth byte: 3 1 0 = elf 1 0
+class of 32 bits: 4 1 1 = elf 2 0
+high end first: 5 1 2 = elf 2 0
+a shared object: 10 2 3 = elf 2 0
+another machine: 12 2 3e = elf 2 0
+few registers: 30 4 8 = elf 2 0
+size of program headers: 36 2 37 = elf 2 0
+size of section headers: 3a 2 0 = elf 2 0
+few registers and compressed: 30 4 9 = elf 2 0
+compressed: 30 4 1 = elf 3 0
+compressed and floats: 30 4 3 = elf 3 0
+single floats: 30 4 2 = elf 4 0
+double floats: 30 4 4 = elf 4 0
+another flag: 30 4 10 = 2 functions 0 sites 0 pairs 1 slots
+program headers one byte past: 20 8 2261 = elf 5 2261
+section headers one byte past: 28 8 20d1 = elf 5 20d1
+headers both past: 20 8 2261, 28 8 1 = elf 5 2261
+headers past the last address: 28 8 ffffffffffffffff = elf 5 ffffffffffffffff
+no section: 3c 2 0 = elf 8 0
+no section, wherever its headers: 3c 2 0, 28 8 2328, 3a 2 1 = elf 8 0
+segment one byte past: 48 8 22ad = elf 5 22ad
+segment past, of no type: 40 4 2, 48 8 22ad = image 2 10000
+symbols one byte past: 21a8 8 2271 = elf 5 2271
+strings of all sizes: 21f0 8 ffffffffffffffff = elf 5 2068
+segment before section: 48 8 22ad, 21a8 8 2271 = elf 5 22ad
+more in the file than in memory: 98 8 9 = elf 6 1
+segment over another's last byte: 88 8 10023 = elf 6 1
+segment next to another: 88 8 10024 = 2 functions 0 sites 0 pairs 0 slots
+segment past the last address: 88 8 fffffffffffffff9 = elf 6 1
+segment up to the last address: 88 8 fffffffffffffff8 = elf 7 0
+segment below the space: 88 8 fff = elf 7 0
+segment at the space's start: 88 8 1000 = 2 functions 0 sites 0 pairs 0 slots
+segment past the space: 88 8 7fffff9 = elf 7 0
+segment at the space's end: 88 8 7fffff8 = image 4 8001000
+segment of no memory: a0 8 0 = 2 functions 0 sites 0 pairs 0 slots
+text of 16 MiB and a byte: 2130 8 1000001 = elf 7 0
+text of 16 MiB: 2130 8 1000000 = image 2 10000
+text that isn't loaded: 2118 8 4 = elf 8 0
+text that isn't executed: 2118 8 2 = elf 8 0
+text of no bits: 2114 4 8 = elf 8 0
+empty text: 2130 8 0 = elf 8 0
+no symbols: 2194 4 b = elf 9 0
+too large and no symbols: 88 8 fff, 2194 4 b = elf 7 0
+no text and no symbols: 2130 8 0, 2194 4 b = elf 8 0
+no segment: 38 2 0 = image 2 10000
+";
 
-const NO_SLOT: Answer = Answer::Has(2, 0, 0, 0);
+/// Cases of the same guest: its text, entry, functions and slots.
+const IMAGE_CASES: &str = "\
+misplaced text: 2120 8 10002 = image 1 10002
+text of half a word: 2130 8 22 = image 1 10000
+text past its segment: 2120 8 10004 = image 2 10004
+text before its segment: 2120 8 fffc = image 2 fffc
+data as text: 2158 8 7 = 2 functions 0 sites 0 pairs 0 slots
+data as text, half a word, text outside: 2158 8 7, 2170 8 6, 2120 8 10004 = image 1 11000
+text over text: 2158 8 7, 2160 8 10020, 2170 8 4 = image 2 10020
+text next to text: 2158 8 7, 2160 8 10020, 2170 8 4, 2130 8 20 = 1 functions 0 sites 0 pairs 0 slots
+entry at half a word: 18 8 10002 = image 3 10002
+entry past text: 18 8 10024 = image 3 10024
+entry in data: 18 8 11000 = image 3 11000
+entry at the last word: 18 8 10020 = 2 functions 0 sites 0 pairs 1 slots
+jump to the region's start: 1000 4 306f, 18 8 10020 = image 5 10000
+jump to the region's last word: 1000 4 7fd8206f = image 5 10000
+jump to before the region: 1000 4 7fd0206f = 2 functions 0 sites 0 pairs 1 slots
+jump to past the region: 1000 4 8306f = 2 functions 0 sites 0 pairs 1 slots
+symbol of another kind: 203c 1 1 = 1 functions 0 sites 0 pairs 0 slots
+symbol of a binding: 203c 1 12 = 2 functions 0 sites 0 pairs 1 slots
+symbol of no section: 203e 2 0 = 1 functions 0 sites 0 pairs 0 slots
+function at half a word: 2040 8 1001e = 1 functions 0 sites 0 pairs 0 slots
+function of no size: 2048 8 0 = 1 functions 0 sites 0 pairs 0 slots
+function of half a word: 2048 8 6 = 1 functions 0 sites 0 pairs 0 slots
+function past text: 2048 8 c = 1 functions 0 sites 0 pairs 0 slots
+function of one word: 2048 8 4 = 2 functions 0 sites 0 pairs 1 slots
+relocation with an addend: 2088 8 1 = 2 functions 0 sites 0 pairs 0 slots
+relocation of another kind: 2080 8 200000003 = 2 functions 0 sites 0 pairs 0 slots
+relocation of no symbol: 2080 8 400000002 = 2 functions 0 sites 0 pairs 0 slots
+relocation of another function: 2080 8 100000002 = 2 functions 0 sites 0 pairs 0 slots
+relocation of another table: 2278 4 4 = 2 functions 0 sites 0 pairs 0 slots
+relocation at half a slot: 2078 8 11004 = 2 functions 0 sites 0 pairs 0 slots
+another function stored: 2000 8 10000 = 2 functions 0 sites 0 pairs 0 slots
+table too short: 2060 8 7 = 2 functions 0 sites 0 pairs 0 slots
+table of another name: 2070 1 58 = 2 functions 0 sites 0 pairs 0 slots
+no strings: 21b8 4 9 = 2 functions 0 sites 0 pairs 0 slots
+";
 
-const ONE_FUNC: Answer = Answer::Has(1, 0, 0, 0);
+/// Cases of the guest with a pair: text at 1000, symbols at 1018, relocations at 1070.
+const PAIR_CASES: &str = "\
+whole:  = 2 functions 0 sites 1 pairs 0 slots
+kind 18: 1078 8 200000012 = 2 functions 0 sites 1 pairs 0 slots
+kind 17: 1078 8 200000011 = 2 functions 0 sites 0 pairs 0 slots
+at the second word: 1070 8 10010 = 2 functions 0 sites 0 pairs 0 slots
+another register: 1010 4 8100e7 = 2 functions 0 sites 0 pairs 0 slots
+the register x0: 100c 4 17, 1010 4 8000e7 = 2 functions 0 sites 0 pairs 0 slots
+no start of a function: 1010 4 c080e7 = 2 functions 0 sites 0 pairs 0 slots
+the entry between: 18 8 10010 = 2 functions 0 sites 0 pairs 0 slots
+a function between: 1038 8 10010, 1040 8 4 = 2 functions 0 sites 0 pairs 0 slots
+a jump between: 1008 4 80006f = 2 functions 0 sites 0 pairs 0 slots
+a branch between: 1008 4 463 = 2 functions 0 sites 0 pairs 0 slots
+a branch to the first word: 1008 4 263 = 2 functions 0 sites 1 pairs 0 slots
+";
 
-const NOT_RISCV: Answer = Answer::Elf(ElfFault::NotRiscv64Exec);
+/// Cases of the guest with sites: text at 1000, relocations at 1080.
+const SITE_CASES: &str = "\
+whole:  = 2 functions 2 sites 0 pairs 0 slots
+kind 18: 1088 8 200000012 = 2 functions 1 sites 0 pairs 0 slots
+no start of a function: 1000 4 14000ef = 2 functions 1 sites 0 pairs 0 slots
+another symbol: 1088 8 100000011 = 2 functions 2 sites 0 pairs 0 slots
+the same place twice: 1098 8 10000 = 2 functions 1 sites 0 pairs 0 slots
+";
 
-/// The guest with a virtual table: 8912 bytes, symbols at 0x2008, relocations at 0x2078, section headers at 8400.
-const FILE_FAULTS: [(&str, &[Change], Answer); 47] = [
-    ("whole", &[], FINE),
-    ("first byte", &[(0, 1, 0x7E)], Answer::Elf(ElfFault::NotElf)),
-    ("fourth byte", &[(3, 1, 0)], Answer::Elf(ElfFault::NotElf)),
-    ("class of 32 bits", &[(4, 1, 1)], NOT_RISCV),
-    ("high end first", &[(5, 1, 2)], NOT_RISCV),
-    ("a shared object", &[(16, 2, 3)], NOT_RISCV),
-    ("another machine", &[(18, 2, 62)], NOT_RISCV),
-    ("few registers", &[(48, 4, 8)], NOT_RISCV),
-    ("size of program headers", &[(54, 2, 55)], NOT_RISCV),
-    ("size of section headers", &[(58, 2, 0)], NOT_RISCV),
-    ("few registers and compressed", &[(48, 4, 9)], NOT_RISCV),
-    (
-        "compressed",
-        &[(48, 4, 1)],
-        Answer::Elf(ElfFault::Compressed),
-    ),
-    (
-        "compressed and floats",
-        &[(48, 4, 3)],
-        Answer::Elf(ElfFault::Compressed),
-    ),
-    (
-        "single floats",
-        &[(48, 4, 2)],
-        Answer::Elf(ElfFault::FloatAbi),
-    ),
-    (
-        "double floats",
-        &[(48, 4, 4)],
-        Answer::Elf(ElfFault::FloatAbi),
-    ),
-    ("another flag", &[(48, 4, 16)], FINE),
-    (
-        "program headers one byte past",
-        &[(32, 8, 8801)],
-        Answer::Elf(ElfFault::Truncated(8801)),
-    ),
-    (
-        "section headers one byte past",
-        &[(40, 8, 8401)],
-        Answer::Elf(ElfFault::Truncated(8401)),
-    ),
-    (
-        "headers both past",
-        &[(32, 8, 8801), (40, 8, 1)],
-        Answer::Elf(ElfFault::Truncated(8801)),
-    ),
-    (
-        "headers past the last address",
-        &[(40, 8, 0xFFFF_FFFF_FFFF_FFFF)],
-        Answer::Elf(ElfFault::Truncated(0xFFFF_FFFF_FFFF_FFFF)),
-    ),
-    ("no section", &[(60, 2, 0)], Answer::Elf(ElfFault::NoText)),
-    (
-        "no section, wherever its headers",
-        &[(60, 2, 0), (40, 8, 9000), (58, 2, 1)],
-        Answer::Elf(ElfFault::NoText),
-    ),
-    (
-        "segment one byte past",
-        &[(72, 8, 8877)],
-        Answer::Elf(ElfFault::Truncated(8877)),
-    ),
-    (
-        "segment past, of no type",
-        &[(64, 4, 2), (72, 8, 8877)],
-        Answer::Image(ImageFault::TextOutside(0x10000)),
-    ),
-    (
-        "symbols one byte past",
-        &[(8616, 8, 8817)],
-        Answer::Elf(ElfFault::Truncated(8817)),
-    ),
-    (
-        "strings of all sizes",
-        &[(8688, 8, 0xFFFF_FFFF_FFFF_FFFF)],
-        Answer::Elf(ElfFault::Truncated(0x2068)),
-    ),
-    (
-        "segment before section",
-        &[(72, 8, 8877), (8616, 8, 8817)],
-        Answer::Elf(ElfFault::Truncated(8877)),
-    ),
-    (
-        "more in the file than in memory",
-        &[(152, 8, 9)],
-        Answer::Elf(ElfFault::BadSegment(1)),
-    ),
-    (
-        "segment over another's last byte",
-        &[(136, 8, 0x10023)],
-        Answer::Elf(ElfFault::BadSegment(1)),
-    ),
-    ("segment next to another", &[(136, 8, 0x10024)], NO_SLOT),
-    (
-        "segment past the last address",
-        &[(136, 8, 0xFFFF_FFFF_FFFF_FFF9)],
-        Answer::Elf(ElfFault::BadSegment(1)),
-    ),
-    (
-        "segment up to the last address",
-        &[(136, 8, 0xFFFF_FFFF_FFFF_FFF8)],
-        Answer::Elf(ElfFault::TooLarge),
-    ),
-    (
-        "segment below the space",
-        &[(136, 8, 0xFFF)],
-        Answer::Elf(ElfFault::TooLarge),
-    ),
-    ("segment at the space's start", &[(136, 8, 0x1000)], NO_SLOT),
-    (
-        "segment past the space",
-        &[(136, 8, 0x7FF_FFF9)],
-        Answer::Elf(ElfFault::TooLarge),
-    ),
-    (
-        "segment at the space's end",
-        &[(136, 8, 0x7FF_FFF8)],
-        Answer::Image(ImageFault::RegionOverlap(0x800_1000)),
-    ),
-    ("segment of no memory", &[(160, 8, 0)], NO_SLOT),
-    (
-        "text of 16 MiB and a byte",
-        &[(8496, 8, 16_777_217)],
-        Answer::Elf(ElfFault::TooLarge),
-    ),
-    (
-        "text of 16 MiB",
-        &[(8496, 8, 16_777_216)],
-        Answer::Image(ImageFault::TextOutside(0x10000)),
-    ),
-    (
-        "text that isn't loaded",
-        &[(8472, 8, 4)],
-        Answer::Elf(ElfFault::NoText),
-    ),
-    (
-        "text that isn't executed",
-        &[(8472, 8, 2)],
-        Answer::Elf(ElfFault::NoText),
-    ),
-    (
-        "text of no bits",
-        &[(8468, 4, 8)],
-        Answer::Elf(ElfFault::NoText),
-    ),
-    ("empty text", &[(8496, 8, 0)], Answer::Elf(ElfFault::NoText)),
-    (
-        "no symbols",
-        &[(8596, 4, 11)],
-        Answer::Elf(ElfFault::NoSymbols),
-    ),
-    (
-        "too large and no symbols",
-        &[(136, 8, 0xFFF), (8596, 4, 11)],
-        Answer::Elf(ElfFault::TooLarge),
-    ),
-    (
-        "no text and no symbols",
-        &[(8496, 8, 0), (8596, 4, 11)],
-        Answer::Elf(ElfFault::NoText),
-    ),
-    (
-        "no segment",
-        &[(56, 2, 0)],
-        Answer::Image(ImageFault::TextOutside(0x10000)),
-    ),
-];
-
-/// The same guest: text, entry, functions and slots.
-const IMAGE_FAULTS: [(&str, &[Change], Answer); 34] = [
-    (
-        "misplaced text",
-        &[(8480, 8, 0x10002)],
-        Answer::Image(ImageFault::TextMisaligned(0x10002)),
-    ),
-    (
-        "text of half a word",
-        &[(8496, 8, 34)],
-        Answer::Image(ImageFault::TextMisaligned(0x10000)),
-    ),
-    (
-        "text past its segment",
-        &[(8480, 8, 0x10004)],
-        Answer::Image(ImageFault::TextOutside(0x10004)),
-    ),
-    (
-        "text before its segment",
-        &[(8480, 8, 0xFFFC)],
-        Answer::Image(ImageFault::TextOutside(0xFFFC)),
-    ),
-    ("data as text", &[(8536, 8, 7)], NO_SLOT),
-    (
-        "data as text, half a word, text outside",
-        &[(8536, 8, 7), (8560, 8, 6), (8480, 8, 0x10004)],
-        Answer::Image(ImageFault::TextMisaligned(0x11000)),
-    ),
-    (
-        "text over text",
-        &[(8536, 8, 7), (8544, 8, 0x10020), (8560, 8, 4)],
-        Answer::Image(ImageFault::TextOutside(0x10020)),
-    ),
-    (
-        "text next to text",
-        &[
-            (8536, 8, 7),
-            (8544, 8, 0x10020),
-            (8560, 8, 4),
-            (8496, 8, 32),
-        ],
-        Answer::Has(1, 0, 0, 0),
-    ),
-    (
-        "entry at half a word",
-        &[(24, 8, 0x10002)],
-        Answer::Image(ImageFault::EntryOutside(0x10002)),
-    ),
-    (
-        "entry past text",
-        &[(24, 8, 0x10024)],
-        Answer::Image(ImageFault::EntryOutside(0x10024)),
-    ),
-    (
-        "entry in data",
-        &[(24, 8, 0x11000)],
-        Answer::Image(ImageFault::EntryOutside(0x11000)),
-    ),
-    ("entry at the last word", &[(24, 8, 0x10020)], FINE),
-    (
-        "jump to the region's start",
-        &[(0x1000, 4, 0x0000306f), (24, 8, 0x10020)],
-        Answer::Image(ImageFault::RegionAimed(0x10000)),
-    ),
-    (
-        "jump to the region's last word",
-        &[(0x1000, 4, 0x7fd8206f)],
-        Answer::Image(ImageFault::RegionAimed(0x10000)),
-    ),
-    (
-        "jump to before the region",
-        &[(0x1000, 4, 0x7fd0206f)],
-        FINE,
-    ),
-    ("jump to past the region", &[(0x1000, 4, 0x0008306f)], FINE),
-    ("symbol of another kind", &[(8252, 1, 1)], ONE_FUNC),
-    ("symbol of a binding", &[(8252, 1, 0x12)], FINE),
-    ("symbol of no section", &[(8254, 2, 0)], ONE_FUNC),
-    ("function at half a word", &[(8256, 8, 0x1001E)], ONE_FUNC),
-    ("function of no size", &[(8264, 8, 0)], ONE_FUNC),
-    ("function of half a word", &[(8264, 8, 6)], ONE_FUNC),
-    ("function past text", &[(8264, 8, 12)], ONE_FUNC),
-    ("function of one word", &[(8264, 8, 4)], FINE),
-    ("relocation with an addend", &[(8328, 8, 1)], NO_SLOT),
-    (
-        "relocation of another kind",
-        &[(8320, 8, (2 << 32) + 3)],
-        NO_SLOT,
-    ),
-    (
-        "relocation of no symbol",
-        &[(8320, 8, (4 << 32) + 2)],
-        NO_SLOT,
-    ),
-    (
-        "relocation of another function",
-        &[(8320, 8, (1 << 32) + 2)],
-        NO_SLOT,
-    ),
-    ("relocation of another table", &[(8824, 4, 4)], NO_SLOT),
-    ("relocation at half a slot", &[(8312, 8, 0x11004)], NO_SLOT),
-    ("another function stored", &[(0x2000, 8, 0x10000)], NO_SLOT),
-    ("table too short", &[(8288, 8, 7)], NO_SLOT),
-    ("table of another name", &[(0x2070, 1, 0x58)], NO_SLOT),
-    ("no strings", &[(8632, 4, 9)], NO_SLOT),
-];
-
-/// Changes of the guest with a pair: text at 0x1000, its relocation at 0x1070, symbols at 0x1018.
-const PAIRS: [(&str, &[Change], Answer); 12] = [
-    ("whole", &[], Answer::Has(2, 0, 1, 0)),
-    (
-        "kind 18",
-        &[(0x1078, 8, (2 << 32) + 18)],
-        Answer::Has(2, 0, 1, 0),
-    ),
-    (
-        "kind 17",
-        &[(0x1078, 8, (2 << 32) + 17)],
-        Answer::Has(2, 0, 0, 0),
-    ),
-    (
-        "at the second word",
-        &[(0x1070, 8, 0x10010)],
-        Answer::Has(2, 0, 0, 0),
-    ),
-    (
-        "another register",
-        &[(0x1010, 4, 0x008100e7)],
-        Answer::Has(2, 0, 0, 0),
-    ),
-    (
-        "the register x0",
-        &[(0x100C, 4, 0x00000017), (0x1010, 4, 0x008000e7)],
-        Answer::Has(2, 0, 0, 0),
-    ),
-    (
-        "no start of a function",
-        &[(0x1010, 4, 0x00c080e7)],
-        Answer::Has(2, 0, 0, 0),
-    ),
-    (
-        "the entry between",
-        &[(24, 8, 0x10010)],
-        Answer::Has(2, 0, 0, 0),
-    ),
-    (
-        "a function between",
-        &[(0x1038, 8, 0x10010), (0x1040, 8, 4)],
-        Answer::Has(2, 0, 0, 0),
-    ),
-    (
-        "a jump between",
-        &[(0x1008, 4, 0x0080006f)],
-        Answer::Has(2, 0, 0, 0),
-    ),
-    (
-        "a branch between",
-        &[(0x1008, 4, 0x00000463)],
-        Answer::Has(2, 0, 0, 0),
-    ),
-    (
-        "a branch to the first word",
-        &[(0x1008, 4, 0x00000263)],
-        Answer::Has(2, 0, 1, 0),
-    ),
-];
-
-/// Changes of the guest with sites: text at 0x1000, relocations at 0x1080.
-const SITES: [(&str, &[Change], Answer); 5] = [
-    ("whole", &[], Answer::Has(2, 2, 0, 0)),
-    (
-        "kind 18",
-        &[(0x1088, 8, (2 << 32) + 18)],
-        Answer::Has(2, 1, 0, 0),
-    ),
-    (
-        "no start of a function",
-        &[(0x1000, 4, 0x014000ef)],
-        Answer::Has(2, 1, 0, 0),
-    ),
-    (
-        "another symbol",
-        &[(0x1088, 8, (1 << 32) + 17)],
-        Answer::Has(2, 2, 0, 0),
-    ),
-    (
-        "the same place twice",
-        &[(0x1098, 8, 0x10000)],
-        Answer::Has(2, 1, 0, 0),
-    ),
-];
-
-/// The first case with another answer than is wanted.
+/// The first case with another answer than is wanted, with that answer.
 fn first_wrong<'a>(
     alloc: Global,
     guest: &Guest<'_>,
-    cases: &[(&'a str, &[Change], Answer)],
-) -> Result<Option<(&'a str, Answer)>, AllocError> {
+    cases: &'a str,
+) -> Result<Option<(&'a str, String)>, AllocError> {
     let whole = file(alloc, guest)?;
-    for (what, changes, want) in cases {
-        let got = answer_of(alloc, &changed(alloc, &whole, changes)?);
-        if got != *want {
-            return Ok(Some((*what, got)));
+    for case in cases.lines() {
+        let (_, rest) = case.split_once(": ").unwrap_or(("", ""));
+        let (changes, want) = rest.split_once("= ").unwrap_or(("", ""));
+        let got = answer(alloc, &changed(alloc, &whole, changes)?)?;
+        if got.as_str() != want {
+            return Ok(Some((case, got)));
         }
     }
     Ok(None)
@@ -676,10 +455,11 @@ fn first_wrong<'a>(
 
 #[test]
 fn mangled_files_have_their_first_fault(rt: HostRuntime) -> Result<(), Fail> {
-    assert_eq!(rt; first_wrong(rt.alloc(), &VTABLE, &FILE_FAULTS)?, None);
-    assert_eq!(rt; first_wrong(rt.alloc(), &VTABLE, &IMAGE_FAULTS)?, None);
-    assert_eq!(rt; first_wrong(rt.alloc(), &PAIR, &PAIRS)?, None);
-    assert_eq!(rt; first_wrong(rt.alloc(), &COUNTDOWN, &SITES)?, None);
+    let alloc = rt.alloc();
+    assert_eq!(rt; first_wrong(alloc, &VTABLE, FILE_CASES)?, None);
+    assert_eq!(rt; first_wrong(alloc, &VTABLE, IMAGE_CASES)?, None);
+    assert_eq!(rt; first_wrong(alloc, &PAIR, PAIR_CASES)?, None);
+    assert_eq!(rt; first_wrong(alloc, &COUNTDOWN, SITE_CASES)?, None);
     Ok(())
 }
 
@@ -687,19 +467,18 @@ fn mangled_files_have_their_first_fault(rt: HostRuntime) -> Result<(), Fail> {
 fn short_files_are_truncated(rt: HostRuntime) -> Result<(), Fail> {
     let whole = file(rt.alloc(), &VTABLE)?;
     assert_eq!(rt; whole.len(), 8912);
-    let cases = [
-        (0, ElfFault::NotElf),
-        (15, ElfFault::NotElf),
-        (16, ElfFault::Truncated(0)),
-        (63, ElfFault::Truncated(0)),
-        (64, ElfFault::Truncated(64)),
-        (175, ElfFault::Truncated(64)),
-        (176, ElfFault::Truncated(8400)),
-        (8911, ElfFault::Truncated(8400)),
-    ];
-    for (len, want) in cases {
-        let got = answer_of(rt.alloc(), whole.get(..len).unwrap_or(&[]));
-        assert_eq!(rt; got, Answer::Elf(want), "{len} bytes");
+    for (len, want) in [
+        (0, "elf 1 0"),
+        (15, "elf 1 0"),
+        (16, "elf 5 0"),
+        (63, "elf 5 0"),
+        (64, "elf 5 40"),
+        (175, "elf 5 40"),
+        (176, "elf 5 20d0"),
+        (8911, "elf 5 20d0"),
+    ] {
+        let got = answer(rt.alloc(), whole.get(..len).unwrap_or(&[]))?;
+        assert_eq!(rt; got.as_str(), want, "{len} bytes");
     }
     Ok(())
 }
@@ -774,7 +553,7 @@ fn guests_have_their_functions_sites_pairs_and_slots(rt: HostRuntime) -> Result<
 fn a_copy_answers_as_the_image_does(rt: HostRuntime) -> Result<(), Fail> {
     let whole = file(rt.alloc(), &PAIR)?;
     // Two symbols name one start: the greater size counts.
-    let bytes = changed(rt.alloc(), &whole, &[(0x1050, 8, 0x10000), (0x1058, 8, 24)])?;
+    let bytes = changed(rt.alloc(), &whole, "1050 8 10000, 1058 8 18")?;
     let image = image_of(rt.alloc(), &bytes, None)?.copy(rt.alloc())?;
     assert_eq!(rt;
         image.funcs(),
