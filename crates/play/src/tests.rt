@@ -55,8 +55,9 @@ fn section_header(
 
 // An ELF file with these words of text at 0x10000 and these bytes of data at 0x11000, and an empty table of symbols.
 fn program(alloc: Global, words: &[u32], data: &[u8]) -> Result<Vec<u8>, Fail> {
-    let text = 4 * words.len() as u64;
+    let text = 4u64.wrapping_mul(words.len() as u64);
     let size = data.len() as u64;
+    let data_at = text.wrapping_add(176);
     let mut file = Vec::new(alloc);
     put(
         &mut file,
@@ -64,10 +65,10 @@ fn program(alloc: Global, words: &[u32], data: &[u8]) -> Result<Vec<u8>, Fail> {
     )?;
     put(&mut file, &0x10000u64.to_le_bytes())?;
     put(&mut file, &64u64.to_le_bytes())?;
-    put(&mut file, &(176 + text + size).to_le_bytes())?;
+    put(&mut file, &data_at.wrapping_add(size).to_le_bytes())?;
     put(&mut file, b"\0\0\0\0\x40\0\x38\0\x02\0\x40\0\x03\0\0\0")?;
     program_header(&mut file, 5, 176, 0x10000, text)?;
-    program_header(&mut file, 6, 176 + text, 0x11000, size)?;
+    program_header(&mut file, 6, data_at, 0x11000, size)?;
     for word in words {
         put(&mut file, &word.to_le_bytes())?;
     }
