@@ -15,6 +15,4 @@ pub mod rules;
 pub mod sections;
 pub mod slots;
 pub mod targets;
-#[cfg(test)]
-mod tests;
 pub mod texts;
