@@ -1,23 +1,9 @@
 //! Numbers of 64 bits from immediates.
 ghost use Rattle.std.specs.Prelude.{◌≡◌};
-ghost use Rattle.rv_alu.specs.Arithmetic.{extended, reduced};
 ghost use Rattle.hart.specs.Harts.{moved_by, upper, even, block_of};
 
+use rv_alu::words::{extended, unsigned};
 use rv_isa::fields::Imm20;
-
-/// A signed number as 64 bits.
-fn unsigned(z: i64) -> u64
-    ensures { result ≡ reduced 64 z }
-{
-    z.cast_unsigned()
-}
-
-/// 32 bits extended by their sign.
-fn extended(n: u32) -> u64
-    ensures { result ≡ extended n }
-{
-    unsigned(i64::from(n.cast_signed()))
-}
 
 /// An address that is `z` bytes further.
 pub fn moved_by(a: u64, z: i32) -> u64
