@@ -3,7 +3,7 @@ use Rattle.std.proofs.Common.{◌≡◌, ◌≢◌, inl, inr, ℕ, List, Option,
 use Rattle.oc_base.specs.Outside.{Disk, Rose}
 use Rattle.play.specs.declared.answer.Ended.{Ended}
 use Rattle.play.specs.declared.answer.Ended.TheVariants.{Ran, Usage, ReadFault, TooLong, Program, Early, WriteFault, NoMemory}
-use Rattle.play.specs.declared.answer.Outcome.{Outcome}
+use Rattle.machine.specs.declared.outcome.Outcome.{Outcome}
 use Rattle.play.specs.declared.call.Writing.{Writing}
 use Rattle.play.specs.declared.delivery.Delivery.{Delivery}
 use Rattle.play.specs.Decision.{Decides}

@@ -1,6 +1,5 @@
 -- What a call decides from its words and its files: the first refusal that holds, or what the run delivers.
 use Rattle.std.specs.Prelude.{◌≡◌, ℕ, List, [], ◌∷◌, ◌++◌, length, ◌-◌, slice_index, ◌==◌, Bool, true, false, Option, Some, None, Result, Ok, Err, nat_lt, if◌then◌else◌}
-use Rattle.std.specs.List.{list_all}
 use Rattle.oc_base.specs.declared.range.Range.{Range}
 use Rattle.image.specs.Picture.{Picture}
 use Rattle.elf_read.specs.declared.elf.Elf.{Elf}
@@ -13,12 +12,13 @@ use Rattle.play.specs.declared.answer.Ended.{Ended}
 use Rattle.play.specs.declared.answer.Ended.TheVariants.{Usage, ReadFault, TooLong, Program, Early}
 use Rattle.play.specs.declared.answer.ProgramFault.{ProgramFault}
 use Rattle.play.specs.declared.answer.ProgramFault.TheVariants as program
-use Rattle.play.specs.declared.answer.Outcome.{Outcome}
-use Rattle.play.specs.declared.answer.Outcome.TheVariants.{Unfinished}
+use Rattle.machine.specs.declared.outcome.Outcome.{Outcome}
+use Rattle.machine.specs.declared.outcome.Outcome.TheVariants.{Unfinished}
+use Rattle.machine.specs.States.{State}
+use Rattle.machine.specs.Start.{start_of}
+use Rattle.machine.specs.Steps.{after_steps}
 use Rattle.play.specs.declared.delivery.Delivery.{Delivery}
-use Rattle.play.specs.declared.machine.Machine.{Machine}
 use Rattle.play.specs.declared.TheConstants.{PROGRAM_LIMIT, SCRIPT_LIMIT}
-use Rattle.play.specs.Machine.{started, after_steps, is_run}
 use Rattle.play.specs.Script.{steps_in}
 
 -- a step that may refuse, and then the next
@@ -46,21 +46,16 @@ abbrev pub outcome_of : Option Outcome → Outcome
 outcome_of (Some outcome) = outcome
 outcome_of None = Unfinished
 
-abbrev pub delivery_of : Machine → Delivery
-delivery_of m = record { outcome = outcome_of m.outcome; out = m.out; err = closed m.err }
+abbrev pub delivery_of : State → Delivery
+delivery_of s = record { outcome = outcome_of s.outcome; out = s.outputs.one; err = closed s.outputs.two }
 
--- each word of the text is one that the first path runs
-abbrev pub all_run : Picture → Bool
-all_run image = list_all (λ t. list_all is_run t.words) image.texts
-
--- the run of an image for the script's steps, where both have the form of the first path
-abbrev pub delivered : Picture → Bool → Option ℕ → Result Delivery Ended
-delivered image true (Some steps) = Ok (delivery_of (after_steps image (started image) steps))
-delivered image true None = Err Early
-delivered image false steps = Err Early
+-- the run of an image for the script's steps, where the script has the form of the first path
+abbrev pub delivered : Picture → Option ℕ → Result Delivery Ended
+delivered image (Some steps) = Ok (delivery_of (after_steps image (start_of image) steps))
+delivered image None = Err Early
 
 unfoldable pub run_of : Picture → List ℕ → Result Delivery Ended
-run_of image script = delivered image (all_run image) (steps_in script)
+run_of image script = delivered image (steps_in script)
 
 -- the region where moved code may lie, of an executable that is given none
 abbrev pub region_of : Elf → Range

@@ -1,6 +1,4 @@
 pub mod Answer
 pub mod Cause
-pub mod Data
 pub mod Decision
-pub mod Machine
 pub mod Script

@@ -5,25 +5,13 @@ ghost use Rattle.std.specs.Fmt.{digits};
 ghost use Rattle.play.specs.Answer.{status_of, line_of, elf_numbers, image_numbers, elf_line, image_line};
 
 use elf_read::fault::ElfFault;
+use machine::outcome::Outcome;
 use oc_base::fault::NoMemory;
 use oc_base::items::Items;
 use oc_base::text::Text;
 use relocs::fault::ImageFault;
 use std::alloc::{AllocError, Global};
 use thiserror::Error;
-
-/// How a run ends.
-#[derive(Clone, Copy, Debug, PartialEq, Eq)]
-pub enum Outcome {
-    /// The guest exited with this status.
-    Exit(u8),
-    /// The guest trapped: the cause's number, the address of the instruction, and the cause's own value.
-    Trap { cause: u8, pc: u64, value: u64 },
-    /// A write would have passed the limit of an output.
-    OutputFull,
-    /// The script ended before the guest did.
-    Unfinished,
-}
 
 /// Why a file is no program.
 #[derive(Clone, Copy, Debug, PartialEq, Eq, Error)]
@@ -49,7 +37,7 @@ pub enum Ended {
     TooLong(Text),
     /// The file of the program is none, for its first fault. Want of memory is never this fault.
     Program(ProgramFault),
-    /// The program's words or the script don't have a form that can be run yet.
+    /// The script doesn't have a form that can be run yet.
     Early,
     /// An output could not be written.
     WriteFault,
@@ -72,8 +60,10 @@ pub fn status(ended: &Ended) -> u8
     match ended {
         Ended::Ran(Outcome::Exit(code)) => *code,
         Ended::Ran(Outcome::OutputFull) => 112,
+        Ended::Ran(Outcome::Landing { .. }) => 114,
         Ended::Ran(Outcome::Unfinished) => 115,
         Ended::Ran(Outcome::Trap { .. }) => 118,
+        Ended::Ran(Outcome::LinkUse { .. }) => 119,
         Ended::Early => 111,
         Ended::Usage => 120,
         Ended::ReadFault(_) => 121,
@@ -158,12 +148,28 @@ fn trap_line(alloc: Global, cause: u8, pc: u64, value: u64) -> Result<String, Al
     format!(in alloc; "ocolos: trap {cause} at 0x{pc} value 0x{value}\n")
 }
 
+fn link_use_line(alloc: Global, rule: u8, pc: u64) -> Result<String, AllocError>
+    ensures { IfOk result (λ line. string_bytes line ≡ line_of (Ended.Ran (Outcome.LinkUse rule pc))) }
+{
+    let pc = hexadecimal(alloc, pc)?;
+    format!(in alloc; "ocolos: link use {rule} at 0x{pc}\n")
+}
+
+fn landing_line(alloc: Global, pc: u64) -> Result<String, AllocError>
+    ensures { IfOk result (λ line. string_bytes line ≡ line_of (Ended.Ran (Outcome.Landing pc))) }
+{
+    let pc = hexadecimal(alloc, pc)?;
+    format!(in alloc; "ocolos: landing at 0x{pc}\n")
+}
+
 fn outcome_line(alloc: Global, outcome: Outcome) -> Result<String, AllocError>
     ensures { IfOk result (λ line. string_bytes line ≡ line_of (Ended.Ran outcome)) }
 {
     match outcome {
         Outcome::Exit(code) => format!(in alloc; "ocolos: exit {code}\n"),
         Outcome::Trap { cause, pc, value } => trap_line(alloc, cause, pc, value),
+        Outcome::LinkUse { rule, pc } => link_use_line(alloc, rule, pc),
+        Outcome::Landing { pc } => landing_line(alloc, pc),
         Outcome::OutputFull => String::from_str(alloc, "ocolos: output full\n"),
         Outcome::Unfinished => String::from_str(alloc, "ocolos: unfinished\n"),
     }

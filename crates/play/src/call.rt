@@ -6,7 +6,7 @@ ghost use Rattle.oc_base.specs.Outside.{Rose, Asks, Disk, GainedPart, TakeFailed
 ghost use Rattle.play.specs.Answer.{status_of, line_of};
 ghost use Rattle.play.specs.Cause.{Reason, Decided, writing_of, Wrote, Delivered, GaveUp, Settles, AsksFor, AllDone};
 ghost use Rattle.play.specs.declared.answer.Ended.{Ended};
-ghost use Rattle.play.specs.declared.answer.Outcome.{Outcome};
+ghost use Rattle.machine.specs.declared.outcome.Outcome.{Outcome};
 ghost use Rattle.play.specs.declared.delivery.Delivery.{Delivery};
 ghost use Rattle.play.specs.Decision.{form_of, within, Decides, names_of};
 

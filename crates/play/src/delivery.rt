@@ -1,19 +1,19 @@
 //! What the bytes of a program and a script deliver.
 
 ghost use Rattle.std.specs.Prelude.{◌≡◌, Ok, Err, IfOk, IfErr};
-ghost use Rattle.std.specs.List.{list_all};
-ghost use Rattle.image.specs.declared.ranges.TextRange.{TextRange as TextData};
 ghost use Rattle.play.specs.Cause.{Reason, Because};
-ghost use Rattle.play.specs.Decision.{Builds, Refuses, Delivers, all_run, closed, outcome_of, run_of};
-ghost use Rattle.play.specs.Machine.{is_run};
+ghost use Rattle.play.specs.Decision.{Builds, Refuses, Delivers, closed, delivery_of, outcome_of, run_of};
+ghost use Rattle.machine.specs.Start.{start_of};
+ghost use Rattle.machine.specs.Steps.{after_steps};
 
-use crate::answer::{Ended, Outcome, ProgramFault};
-use crate::machine::{Machine, is_run};
+use crate::answer::{Ended, ProgramFault};
 use crate::script::steps_in;
 use elf_read::fault::ElfFault;
 use elf_read::read::read_elf;
 use image::picture::Image;
-use image::ranges::TextRange;
+use machine::calls::Output;
+use machine::machine::Machine;
+use machine::outcome::Outcome;
 use oc_base::fault::NoMemory;
 use oc_base::items::Items;
 use relocs::build::build_image;
@@ -72,53 +72,42 @@ fn build(alloc: Global, bytes: &[u8]) -> Result<Image, Ended>
     }
 }
 
-fn words_run(words: &[u32]) -> bool
-    ensures { result ≡ list_all is_run words.now }
-{
-    words.iter().all(|w| is_run(*w))
-}
-
-fn text_runs(text: &TextRange) -> bool
-    ensures { result ≡ list_all is_run text.now.words }
-{
-    words_run(text.words.as_slice())
-}
-
-// Whether the first path runs each word of the text.
-fn all_run(image: &Image) -> bool
-    ensures { result ≡ all_run image.now }
-{
-    image.texts().iter().all(|text| text_runs(text))
-}
-
 // The run of an image for the script's steps.
 #[tactic(auto, unfolding(crate::specs::Decision::run_of))]
 fn run_image(alloc: Global, image: &Image, script: &[u8]) -> Result<Delivery, Ended>
     ensures { Because ⊥ (λ _. ⊥) (λ decision. run_of image.now script.now ≡ decision) result }
 {
-    if !all_run(image) {
-        return Err(Ended::Early);
-    }
     let Some(steps) = steps_in(script) else {
         return Err(Ended::Early);
     };
-    let mut machine = Machine::started(alloc, image);
-    let Ok(()) = machine.run(alloc, image, steps) else {
+    let Ok(machine) = run_steps(alloc, image, steps) else {
         return Err(Ended::NoMemory);
     };
-    let Machine {
-        out,
-        err,
-        outcome,
-        ..
-    } = machine;
-    let Ok(err) = closed(err) else {
+    let Ok(delivery) = delivery_of(alloc, &machine) else {
         return Err(Ended::NoMemory);
     };
+    Ok(delivery)
+}
+
+// The machine after so many steps.
+fn run_steps(alloc: Global, image: &Image, steps: u32) -> Result<Machine, NoMemory>
+    ensures { IfOk result (λ m. m ≡ after_steps image.now (start_of image.now) steps) }
+{
+    let mut machine = Machine::start(alloc, image)?;
+    machine.run(image, steps)?;
+    Ok(machine)
+}
+
+// What a machine delivers.
+fn delivery_of(alloc: Global, machine: &Machine) -> Result<Delivery, NoMemory>
+    ensures { IfOk result (λ d. d ≡ delivery_of machine.now) }
+{
+    let out = Items::from_slice(alloc, machine.output(Output::One))?;
+    let err = Items::from_slice(alloc, machine.output(Output::Two))?;
     Ok(Delivery {
-        outcome: outcome_of(outcome),
+        outcome: outcome_of(machine.outcome()),
         out,
-        err,
+        err: closed(err)?,
     })
 }
 

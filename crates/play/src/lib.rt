@@ -4,9 +4,7 @@
 
 pub mod answer;
 pub mod call;
-mod data;
 pub mod delivery;
-mod machine;
 mod script;
 
 /// The most bytes of a program's file.
@@ -14,9 +12,6 @@ pub const PROGRAM_LIMIT: usize = 67108864;
 
 /// The most bytes of a script's file.
 pub const SCRIPT_LIMIT: usize = 536870912;
-
-/// The most bytes of an output of the guest.
-pub const OUTPUT_LIMIT: usize = 16777216;
 
 /// The most steps that a script asks for.
 pub const STEP_LIMIT: u32 = 2000000000;

@@ -19,6 +19,77 @@ const HI: [u32; 8] = [
     0x0000_0073, // ecall
 ];
 
+// A guest that calls twice, and exits with the lowest 6 bits of the address of a word of the callee.
+const COUNTDOWN: [u32; 10] = [
+    0x0100_00ef, // jal x1, 0x10010
+    0x00c0_00ef, // jal x1, 0x10010
+    0x05d0_0893, // addi x17, x0, 93
+    0x0000_0073, // ecall
+    0x0020_0293, // addi x5, x0, 2
+    0xfff2_8293, // addi x5, x5, -1
+    0xfe02_9ee3, // bne x5, x0, 0x10014
+    0x0000_0317, // auipc x6, 0
+    0x03f3_7513, // andi x10, x6, 63
+    0x0000_8067, // jalr x0, 0(x1)
+];
+
+// A guest that stores a return address, writes over a byte of it and exits with the lowest byte of the word.
+const BYTE_OF_LINK: [u32; 8] = [
+    0x0040_00ef, // jal x1, 0x10004
+    0x0040_00ef, // jal x1, 0x10008
+    0xfe11_3c23, // sd x1, -8(x2)
+    0xfe01_0ca3, // sb x0, -7(x2)
+    0xff81_3283, // ld x5, -8(x2)
+    0x0ff2_f513, // andi x10, x5, 255
+    0x05d0_0893, // addi x17, x0, 93
+    0x0000_0073, // ecall
+];
+
+// A guest that adds a return address to itself.
+const LINK_ADDED: [u32; 2] = [
+    0x0040_00ef, // jal x1, 0x10004
+    0x0010_8333, // add x6, x1, x1
+];
+
+// A guest that jumps 4 bytes past a return address.
+const PAST_LINK: [u32; 2] = [
+    0x0040_00ef, // jal x1, 0x10004
+    0x0040_8067, // jalr x0, 4(x1)
+];
+
+// A guest that jumps to an address of its own making, outside its text.
+const FORGED_ADDRESS: [u32; 2] = [
+    0x0001_22b7, // lui x5, 18
+    0x0002_8067, // jalr x0, 0(x5)
+];
+
+// A guest that exits with a return address.
+const LINK_AS_STATUS: [u32; 4] = [
+    0x0040_00ef, // jal x1, 0x10004
+    0x0000_8513, // addi x10, x1, 0
+    0x05d0_0893, // addi x17, x0, 93
+    0x0000_0073, // ecall
+];
+
+// A guest that exits with the first byte of its name, by the first of its arguments.
+const NAME: [u32; 5] = [
+    0x0081_3283, // ld x5, 8(x2)
+    0x0002_c503, // lbu x10, 0(x5)
+    0x05d0_0893, // addi x17, x0, 93
+    0x0000_0073, // ecall
+    0x0010_0073, // ebreak
+];
+
+// A guest that jumps to the second word of its far call. The function it calls is the last word.
+const FAR_CALL: [u32; 6] = [
+    0x0001_02b7, // lui x5, 16
+    0x0102_8067, // jalr x0, 16(x5)
+    0x0000_0013, // addi x0, x0, 0
+    0x0000_0097, // auipc x1, 0
+    0x0080_80e7, // jalr x1, 8(x1)
+    0x0000_8067, // jalr x0, 0(x1)
+];
+
 fn put(file: &mut Vec<u8>, bytes: &[u8]) -> Result<(), Fail> {
     Ok(file.extend_from_slice(bytes)?)
 }
@@ -43,11 +114,13 @@ fn section_header(
     kind: u32,
     flags: u64,
     at: u64,
+    offset: u64,
     size: u64,
+    link: u64,
 ) -> Result<(), Fail> {
     put(file, &0u32.to_le_bytes())?;
     put(file, &kind.to_le_bytes())?;
-    for field in [flags, at, 0, size, 0, 4, 0] {
+    for field in [flags, at, offset, size, link, 4, 0] {
         put(file, &field.to_le_bytes())?;
     }
     Ok(())
@@ -73,9 +146,38 @@ fn program(alloc: Global, words: &[u32], data: &[u8]) -> Result<Vec<u8>, Fail> {
         put(&mut file, &word.to_le_bytes())?;
     }
     put(&mut file, data)?;
-    section_header(&mut file, 0, 0, 0, 0)?;
-    section_header(&mut file, 1, 6, 0x10000, text)?;
-    section_header(&mut file, 2, 0, 0, 0)?;
+    section_header(&mut file, 0, 0, 0, 0, 0, 0)?;
+    section_header(&mut file, 1, 6, 0x10000, 0, text, 0)?;
+    section_header(&mut file, 2, 0, 0, 0, 0, 0)?;
+    Ok(file)
+}
+
+// An ELF file with the words of `FAR_CALL` at 0x10000, the symbol of the function at 0x10014, and a relocation of the far call
+// at 0x1000c (type 19).
+fn far_call(alloc: Global) -> Result<Vec<u8>, Fail> {
+    let mut file = Vec::new(alloc);
+    put(
+        &mut file,
+        b"\x7fELF\x02\x01\x01\0\0\0\0\0\0\0\0\0\x02\0\xf3\0\x01\0\0\0",
+    )?;
+    for field in [0x10000u64, 64, 216] {
+        put(&mut file, &field.to_le_bytes())?;
+    }
+    put(&mut file, b"\0\0\0\0\x40\0\x38\0\x01\0\x40\0\x04\0\0\0")?;
+    program_header(&mut file, 5, 120, 0x10000, 24)?;
+    for word in FAR_CALL {
+        put(&mut file, &word.to_le_bytes())?;
+    }
+    for field in [0u64, 0, 0, 0x0001_0002_0000_0000, 0x10014, 4] {
+        put(&mut file, &field.to_le_bytes())?;
+    }
+    for field in [0x1000cu64, 0x0000_0001_0000_0013, 0] {
+        put(&mut file, &field.to_le_bytes())?;
+    }
+    section_header(&mut file, 0, 0, 0, 0, 0, 0)?;
+    section_header(&mut file, 1, 6, 0x10000, 120, 24, 0)?;
+    section_header(&mut file, 2, 0, 0, 144, 48, 0)?;
+    section_header(&mut file, 4, 0, 0, 192, 24, 2)?;
     Ok(file)
 }
 
@@ -112,6 +214,14 @@ fn disk(alloc: Global) -> Result<Vec<(String, Vec<u8>)>, Fail> {
     files.push(named(alloc, "hi.elf", program(alloc, &HI, b"hi\n")?)?)?;
     files.push(named(alloc, "trap.elf", ending(alloc, 0x0000_0013)?)?)?;
     files.push(named(alloc, "branch.elf", ending(alloc, 0x0000_0063)?)?)?;
+    files.push(named(alloc, "countdown.elf", program(alloc, &COUNTDOWN, b"")?)?)?;
+    files.push(named(alloc, "byte.elf", program(alloc, &BYTE_OF_LINK, b"")?)?)?;
+    files.push(named(alloc, "added.elf", program(alloc, &LINK_ADDED, b"")?)?)?;
+    files.push(named(alloc, "past.elf", program(alloc, &PAST_LINK, b"")?)?)?;
+    files.push(named(alloc, "forged.elf", program(alloc, &FORGED_ADDRESS, b"")?)?)?;
+    files.push(named(alloc, "status.elf", program(alloc, &LINK_AS_STATUS, b"")?)?)?;
+    files.push(named(alloc, "name.elf", program(alloc, &NAME, b"")?)?)?;
+    files.push(named(alloc, "far call.elf", far_call(alloc)?)?)?;
     files.push(named(alloc, "empty.elf", Vec::new(alloc))?)?;
     files.push(named(alloc, "cut.elf", cut(alloc, 63)?)?)?;
     files.push(named(alloc, "cut at the end.elf", cut(alloc, 402)?)?)?;
@@ -168,7 +278,29 @@ fn check(rt: &(impl Abort + AllocGlobal), row: &Row) -> Result<(), Fail> {
     Ok(())
 }
 
-const RUNS: [Row; 6] = [
+// A guest that writes nothing: the status and the last line of its run of 100 steps.
+fn check_end(
+    rt: &(impl Abort + AllocGlobal),
+    name: &str,
+    status: u8,
+    last: &str,
+) -> Result<(), Fail> {
+    let alloc = rt.alloc();
+    let mut words = Vec::new(alloc);
+    words.push(String::from_str(alloc, name)?)?;
+    words.push(String::from_str(alloc, "whole")?)?;
+    let mut files = MemFiles::new(disk(alloc)?, Vec::new(alloc));
+    let mut input = MemSource::new(Vec::new(alloc), Vec::new(alloc));
+    let mut out = MemSink::new(Vec::new(alloc), Vec::new(alloc));
+    let mut err = MemSink::new(Vec::new(alloc), Vec::new(alloc));
+    let answer = play(alloc, &words, &mut files, &mut input, &mut out, &mut err);
+    assert_eq!(rt; answer.status, status);
+    assert!(rt; out.held().is_empty());
+    assert_eq!(rt; err.held(), last.as_bytes());
+    Ok(())
+}
+
+const RUNS: [Row; 7] = [
     Row {
         words: &["hi.elf", "whole"],
         fails: [0, 0, 0],
@@ -198,6 +330,13 @@ const RUNS: [Row; 6] = [
         err: "ocolos: unfinished\n",
     },
     Row {
+        words: &["branch.elf", "whole"],
+        fails: [0, 0, 0],
+        status: 115,
+        out: "hi\n",
+        err: "ocolos: unfinished\n",
+    },
+    Row {
         words: &["trap.elf", "whole"],
         fails: [0, 0, 0],
         status: 118,
@@ -211,6 +350,22 @@ const RUNS: [Row; 6] = [
         out: "hi\n",
         err: "",
     },
+];
+
+// Guests that need more than a few instructions: what they exit with, or what the monitor says of them.
+const LINKS: [(&str, u8, &str); 8] = [
+    ("countdown.elf", 28, "ocolos: exit 28\n"),
+    ("byte.elf", 8, "ocolos: exit 8\n"),
+    ("added.elf", 119, "ocolos: link use 1 at 0x10004\n"),
+    ("past.elf", 119, "ocolos: link use 6 at 0x10004\n"),
+    (
+        "forged.elf",
+        118,
+        "ocolos: trap 1 at 0x10004 value 0x12000\n",
+    ),
+    ("far call.elf", 114, "ocolos: landing at 0x10010\n"),
+    ("status.elf", 119, "ocolos: link use 5 at 0x1000c\n"),
+    ("name.elf", 103, "ocolos: exit 103\n"),
 ];
 
 const FAULTS: [Row; 6] = [
@@ -258,7 +413,7 @@ const FAULTS: [Row; 6] = [
     },
 ];
 
-const REFUSALS: [Row; 10] = [
+const REFUSALS: [Row; 9] = [
     Row {
         words: &["hi.elf", "till"],
         fails: [0, 0, 0],
@@ -268,13 +423,6 @@ const REFUSALS: [Row; 10] = [
     },
     Row {
         words: &["hi.elf", "too many"],
-        fails: [0, 0, 0],
-        status: 111,
-        out: "",
-        err: "ocolos: early\n",
-    },
-    Row {
-        words: &["branch.elf", "whole"],
         fails: [0, 0, 0],
         status: 111,
         out: "",
@@ -335,6 +483,14 @@ const REFUSALS: [Row; 10] = [
 fn runs_deliver_what_the_guest_wrote(rt: HostRuntime) -> Result<(), Fail> {
     for row in &RUNS {
         check(&rt, row)?;
+    }
+    Ok(())
+}
+
+#[test]
+fn links_may_be_moved_and_jumped_through_alone(rt: HostRuntime) -> Result<(), Fail> {
+    for (name, status, last) in LINKS {
+        check_end(&rt, name, status, last)?;
     }
     Ok(())
 }

@@ -1,0 +1,4 @@
+pub mod Called
+pub mod Loading
+pub mod Slots
+pub mod Stays

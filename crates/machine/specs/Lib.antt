@@ -1,0 +1,4 @@
+pub mod Calls
+pub mod Start
+pub mod States
+pub mod Steps

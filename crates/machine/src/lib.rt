@@ -1,0 +1,29 @@
+//! The original machine: a guest's hart, its memory and its outputs, from the state before the first step on.
+//!
+//! `specs/Start.antt` says what stands before the first step, `specs/Steps.antt` what a step leaves, and `specs/Calls.antt`
+//! what the calls of the system do. A step takes the fetched word and the meaning of links as arguments, so that a machine
+//! whose code has been moved is the same definition.
+#![tactic(auto)]
+
+pub mod calls;
+pub mod machine;
+pub mod outcome;
+mod start;
+
+/// The most bytes of an output of the guest.
+pub const OUTPUT_LIMIT: usize = 16777216;
+
+/// The first address of the stack.
+pub const STACK_START: u64 = 0x0f80_0000;
+
+/// The end of the stack, and of the guest's addresses.
+pub const STACK_END: u64 = 0x1000_0000;
+
+/// What the stack pointer, x2, holds before the first step.
+pub const STACK_POINTER: u64 = 0x0fff_ff70;
+
+/// The address of the program's name.
+pub const NAME_AT: u64 = 0x0fff_fff8;
+
+#[cfg(test)]
+mod tests;
