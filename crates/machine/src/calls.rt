@@ -141,7 +141,15 @@ pub fn syscall<M: GuestStore, O: Origins>(
     match regs[17].number {
         64 => {
             let output = output_of(regs[10].number);
-            write(alloc, outputs, memory, origins, output, regs[11].number, regs[12].number)
+            write(
+                alloc,
+                outputs,
+                memory,
+                origins,
+                output,
+                regs[11].number,
+                regs[12].number,
+            )
         }
         93 => Ok(Reply::EndHart),
         _ => Ok(Reply::Answer(38u64.wrapping_neg())),

@@ -100,18 +100,17 @@ impl Machine {
 
     /// A jump to `to`, by a plain number or a link.
     #[tactic(auto, unfolding(crate::specs::Steps::by_answer))]
-    fn jump<O: Origins>(
-        &mut self,
-        image: &Image,
-        origins: &O,
-        to: u64,
-        by: Tag,
-        link: Option<Reg>,
-    )
+    fn jump<O: Origins>(&mut self, image: &Image, origins: &O, to: u64, by: Tag, link: Option<Reg>)
         ensures { self.new ≡ by_answer (O.origin origins.now) image.now (Acted.Jump to by link) self.old }
     {
         let pc = origins.origin(self.hart.pc);
-        let target = original(Value { number: to, tag: by }, origins);
+        let target = original(
+            Value {
+                number: to,
+                tag: by,
+            },
+            origins,
+        );
         match fault_of_jump(image, pc, target, by) {
             None => finish_jump(&mut self.hart, to, link),
             Some(outcome) => self.outcome = Some(outcome),
@@ -124,7 +123,13 @@ impl Machine {
         ensures ok { OnOk result (self.new ≡ after_call (O.origin origins.now) self.old) }
         ensures err { OnErr result (self.new ≡ self.old) }
     {
-        let reply = syscall(self.alloc, &mut self.outputs, &self.memory, origins, &self.hart.regs)?;
+        let reply = syscall(
+            self.alloc,
+            &mut self.outputs,
+            &self.memory,
+            origins,
+            &self.hart.regs,
+        )?;
         self.reply(origins, reply);
         Ok(())
     }

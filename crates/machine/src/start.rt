@@ -122,7 +122,22 @@ fn add_stack(memory: &mut FlatMem, image: &Image) -> Result<(), NoMemory>
     write_bytes(memory, NAME_AT, b"guest")?;
     let (headers, count) = image.headers();
     let words = [
-        1, NAME_AT, 0, 0, 3, headers, 4, 56, 5, count, 6, 4096, 9, image.entry(), 0, 0,
+        1,
+        NAME_AT,
+        0,
+        0,
+        3,
+        headers,
+        4,
+        56,
+        5,
+        count,
+        6,
+        4096,
+        9,
+        image.entry(),
+        0,
+        0,
     ];
     write_words(memory, STACK_POINTER, &words)
 }

@@ -38,15 +38,27 @@ fn a_write_gives_the_original_number_of_a_link(rt: HostRuntime) -> Result<(), Fa
         to: AT + 16,
     };
     memory.map(range, true, true)?;
-    assert_eq!(rt; memory.store(AT, Width::D, Value::link(0x12014), &One), Ok(()));
+    assert_eq!(rt;
+        memory.store(AT, Width::D, Value::link(0x12014), &One),
+        Ok(())
+    );
     let mut outputs = Outputs::new(rt.alloc());
     let write = registers(64, 2, AT, 9);
-    assert_eq!(rt; syscall(rt.alloc(), &mut outputs, &memory, &One, &write), Ok(Reply::Answer(9)));
+    assert_eq!(rt;
+        syscall(rt.alloc(), &mut outputs, &memory, &One, &write),
+        Ok(Reply::Answer(9))
+    );
     assert!(rt; outputs.of(Output::One).is_empty());
-    assert_eq!(rt; outputs.of(Output::Two), [0x28, 0, 1, 0, 0, 0, 0, 0, 0].as_slice());
+    assert_eq!(rt;
+        outputs.of(Output::Two),
+        [0x28, 0, 1, 0, 0, 0, 0, 0, 0].as_slice()
+    );
     let past = registers(64, 1, AT, 17);
     let minus_14 = 0xffff_ffff_ffff_fff2;
-    assert_eq!(rt; syscall(rt.alloc(), &mut outputs, &memory, &One, &past), Ok(Reply::Answer(minus_14)));
+    assert_eq!(rt;
+        syscall(rt.alloc(), &mut outputs, &memory, &One, &past),
+        Ok(Reply::Answer(minus_14))
+    );
     Ok(())
 }
 
@@ -56,11 +68,23 @@ fn a_call_names_the_first_register_with_a_link(rt: HostRuntime) {
     let mut outputs = Outputs::new(rt.alloc());
     let mut regs = registers(64, 7, 0, 0);
     let minus_9 = 0xffff_ffff_ffff_fff7;
-    assert_eq!(rt; syscall(rt.alloc(), &mut outputs, &memory, &One, &regs), Ok(Reply::Answer(minus_9)));
+    assert_eq!(rt;
+        syscall(rt.alloc(), &mut outputs, &memory, &One, &regs),
+        Ok(Reply::Answer(minus_9))
+    );
     regs[12] = Value::link(0x10004);
-    assert_eq!(rt; syscall(rt.alloc(), &mut outputs, &memory, &One, &regs), Ok(Reply::LinkUse { reg: 12 }));
+    assert_eq!(rt;
+        syscall(rt.alloc(), &mut outputs, &memory, &One, &regs),
+        Ok(Reply::LinkUse { reg: 12 })
+    );
     regs[17] = Value::plain(93);
-    assert_eq!(rt; syscall(rt.alloc(), &mut outputs, &memory, &One, &regs), Ok(Reply::EndHart));
+    assert_eq!(rt;
+        syscall(rt.alloc(), &mut outputs, &memory, &One, &regs),
+        Ok(Reply::EndHart)
+    );
     regs[17] = Value::link(0x10004);
-    assert_eq!(rt; syscall(rt.alloc(), &mut outputs, &memory, &One, &regs), Ok(Reply::LinkUse { reg: 17 }));
+    assert_eq!(rt;
+        syscall(rt.alloc(), &mut outputs, &memory, &One, &regs),
+        Ok(Reply::LinkUse { reg: 17 })
+    );
 }
