@@ -1,6 +1,7 @@
 pub mod Arranged
 pub mod Filtered
 pub mod Finding
+pub mod FirstOf
 pub mod LeastFound
 pub mod MapLaws
 pub mod Mapped
