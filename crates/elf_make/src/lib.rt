@@ -1,0 +1,5 @@
+//! The file of a program: an executable that holds its words, bytes, symbols and relocations.
+#![tactic(auto)]
+
+pub mod make;
+pub mod rows;

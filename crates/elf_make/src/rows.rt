@@ -1,0 +1,24 @@
+//! What the file's header and its sections say.
+
+use elf_read::tables::SectionHeader;
+
+/// What the file's header says of this file.
+#[derive(Clone, Copy, Debug)]
+pub struct FileHeader {
+    pub entry: u64,
+    /// Where the section headers stand.
+    pub section_headers: u64,
+    pub program_header_count: u16,
+    pub section_header_count: u16,
+}
+
+/// A section header, with the fields that no reader of this repository needs.
+#[derive(Clone, Copy, Debug)]
+pub struct SectionRow {
+    /// The place of its name in the table of the sections' names.
+    pub name: u32,
+    pub header: SectionHeader,
+    pub info: u32,
+    pub align: u64,
+    pub entry_size: u64,
+}
