@@ -23,146 +23,175 @@ const CALLS: &[u8] = b".func main; lui x5,16; jalr x0,16(x5); nop; call leaf; ja
 .func leaf; ret; .end; .entry leaf
 ";
 
-/// The line and the kind of the first fault, or zeros where there is none.
-fn fault_in(alloc: Global, text: &[u8]) -> Result<(u64, u8), NoMemory>
+/// The bytes of a text that is written with `/` for a newline.
+fn text_of(alloc: Global, row: &str) -> Result<Vec<u8>, NoMemory> {
+    let mut bytes = row.as_bytes().to_vec(alloc)?;
+    for byte in &mut bytes {
+        if *byte == b'/' {
+            *byte = b'\n';
+        }
+    }
+    Ok(bytes)
+}
+
+/// The line and the kind of the first fault.
+fn fault_in(alloc: Global, text: &[u8]) -> Result<String, NoMemory>
     requires { length text.now ≤ 67108864 }
 {
     match assemble(alloc, text) {
-        Ok(_) => Ok((0, 0)),
-        Err(AsmFault::Line { line, kind }) => Ok((line, kind)),
+        Ok(_) => Ok(String::from_str(alloc, "none")?),
+        Err(AsmFault::Line { line, kind }) => Ok(format!(in alloc; "{line} {kind}")?),
         Err(AsmFault::NoMemory) => Err(NoMemory),
     }
 }
 
-#[test]
-fn the_first_fault_is_told(rt: HostRuntime) -> Result<(), NoMemory> {
-    let cases: [(&[u8], (u64, u8)); 96] = [
-        (b"go x1\n", (1, 1)),
-        (b".func a\naddi x1,x0,4096\n.end\n", (2, 3)),
-        (b".func a\njal x0,b\n.end\n", (2, 4)),
-        (b".func a\n", (1, 6)),
-        (b"", (1, 4)),
-        (b".func f\n.end\n.data\nnop;go\n", (4, 1)),
-        (b".func f\n.end\n.data\n.byte x;nop\n", (4, 7)),
-        (b".func f\n.func g;addi x1,x2\n.end", (2, 2)),
-        (b".func f\nf: .func g\n.end", (2, 6)),
-        (b".func f\nf: jal x0,b\n.end", (2, 5)),
-        (b".func f\njal x0,b;addi x1,x1,2048\n.end", (2, 4)),
-        (b".func f\n.nops 4194305;addi x1,x1,2048\n.end", (2, 3)),
-        (b".func f\n.nops 4194305\n.end", (2, 8)),
-        (b".func f\n.end\n.data\n.space 16777217", (4, 8)),
-        (b".func f\n.end\n.data\n.space 16777216", (0, 0)),
-        (b".func f\n.nops 4194304\n.end", (0, 0)),
-        (
-            b".func f\n.end\n.data\n.space 99999999999999999999999999",
-            (4, 8),
-        ),
-        (b".func f\n.nops -1\n.end", (2, 3)),
-        (b".func f\n.end\n.data\nnop\n", (4, 7)),
-        (b".func f\n.end\n.data\na:\n", (4, 7)),
-        (b".func f\n.end\n.data\n.func g\n", (4, 7)),
-        (b".func f\n.end\n.data\n.end\n", (4, 7)),
-        (b".func f\n.end\n.data\n.nops 1\n", (4, 7)),
-        (b".func f\n.end\n.data\ncall f\n", (4, 7)),
-        (b".func f\n.end\n.byte 1\n", (3, 7)),
-        (b".func f\n.end\n.dword 1\n", (3, 7)),
-        (b".func f\n.end\n.space 1\n", (3, 7)),
-        (b".func f\n.end\n.ascii \"a\"\n", (3, 7)),
-        (b".func f\n.end\n.object o\n", (3, 7)),
-        (b".func f\n.end\n.endobject\n", (3, 7)),
-        (b".func f\n.end\n.slot f\n", (3, 7)),
-        (
-            b".func f\n.end\n.word 1\n.data\n.word 1\n.text\n.entry f\n.data\n.entry f",
-            (0, 0),
-        ),
-        (b".func f\njal x0,a\n.end\n.data\na: .byte 1\n", (2, 4)),
-        (b".func f\njal x0,a\n.end\na: addi x1\n", (2, 4)),
-        (b".func f\n.end\n.func g\n.func h\n.end", (4, 6)),
-        (b".func f\n.func g\n", (1, 6)),
-        (
-            b".func f\n.end\n.data\n.object o\n.object p\n.endobject",
-            (5, 6),
-        ),
-        (b".func f\n.end\n.data\n.object o", (4, 6)),
-        (b".func f\n.end\n.end", (3, 6)),
-        (b".func f\n.end\n.data\n.endobject", (4, 6)),
-        (b".func f\n.end\n.func f\n.end", (3, 5)),
-        (b".func f\n.end\n.data\n.object f\n.endobject", (4, 5)),
-        (b".func f\na: a: nop\n.end", (2, 5)),
-        (b".func f\na: call a\n.end", (2, 4)),
-        (
-            b".func f\njal x0,o\n.end\n.data\n.object o\n.endobject",
-            (2, 4),
-        ),
-        (b".func f\n.end\n.entry g", (3, 4)),
-        (
-            b".func f\n.end\n.data\n.slot o\n.object o\n.endobject",
-            (4, 4),
-        ),
-        (b".func f\nbeq x1,x2,b\n.end", (2, 4)),
-        (b".func f\n.end\n.data\n.byte -129", (4, 3)),
-        (b".func f\n.end\n.data\n.byte -128", (0, 0)),
-        (b".func f\n.end\n.data\n.byte 255", (0, 0)),
-        (b".func f\n.end\n.data\n.byte 256", (4, 3)),
-        (b".func f\n.end\n.data\n.dword -9223372036854775809", (4, 3)),
-        (b".func f\n.end\n.data\n.dword 18446744073709551615", (0, 0)),
-        (b".func f\n.end\n.data\n.word 4294967296", (4, 3)),
-        (b".func f\n.end\n.data\n.word -2147483648", (0, 0)),
-        (b".func f\nslli x1,x1,64\n.end", (2, 3)),
-        (b".func f\nslliw x1,x1,32\n.end", (2, 3)),
-        (b".func f\nslliw x1,x1,31\n.end", (0, 0)),
-        (b".func f\nlui x1,1048576\n.end", (2, 3)),
-        (b".func f\nlui x1,-1\n.end", (2, 3)),
-        (b".func f\nld x1,2048(x2)\n.end", (2, 3)),
-        (b".func f\nsd x1,-2049(x2)\n.end", (2, 3)),
-        (b".func f\njal x0,65541\n.end", (2, 3)),
-        (b".func f\njal x0,-4\n.end", (2, 3)),
-        (b".func f\nbeq x1,x2,69632\n.end", (2, 3)),
-        (b".func f\nbeq x1,x2,69630\n.end", (0, 0)),
-        (b".func f\naddi x1,x2\n.end", (2, 2)),
-        (b".func f\naddi x1,x32,0\n.end", (2, 2)),
-        (b".func f\naddi x01,x1,0\n.end", (2, 2)),
-        (b".func f\nld x1,(x2)\n.end", (2, 2)),
-        (b".func f\nld x1,0\n.end", (2, 2)),
-        (b".func f\nlr.d x1,0(x2)\n.end", (2, 2)),
-        (b".func f\nret x1\n.end", (2, 2)),
-        (b".func f\njal x1,1a\n.end", (2, 2)),
-        (b".func f\naddi x1,x1,0X10\n.end", (2, 2)),
-        (b".func f\naddi x1,x1,-0x10\n.end", (2, 2)),
-        (b".func f\nret\r\n.end", (2, 2)),
-        (b".func f\nnop ,\n.end", (2, 2)),
-        (b".func f\naddi x1,x1,1,\n.end", (2, 2)),
-        (b".func f\n.word \"a\"\n.end", (2, 2)),
-        (b".func f\nlr.d.aq x1,(x2)\n.end", (2, 1)),
-        (b".func f\namoadd.q x1,x2,(x3)\n.end", (2, 1)),
-        (b".func f\n1a: nop\n.end", (2, 1)),
-        (b".func f\nADD x1,x1,x1\n.end", (2, 1)),
-        (b".func f\na b: nop\n.end", (2, 1)),
-        (b".func f\n, nop\n.end", (2, 1)),
-        (b".func f\n.end\n.data\n.ascii \"a", (4, 2)),
-        (b".func f\n.end\n.data\n.ascii \"a\\t\"", (4, 2)),
-        (b".func f\n.end\n.data\n.ascii \"a\" \"b\"", (4, 2)),
-        (b".func f\n.end\n.data\n.ascii \"\"", (0, 0)),
-        (b".func f\n.end\n.data\n.ascii a", (4, 2)),
-        (
-            b".func f\n.end\n.data\n.ascii \"a;b#c\\n\"; .byte 1 # 2",
-            (0, 0),
-        ),
-        (HI, (0, 0)),
-        (VTABLE, (0, 0)),
-        (CALLS, (0, 0)),
-    ];
-    for (text, fault) in cases {
-        if text.len() <= 67108864 {
-            assert_eq!(rt;
-                fault_in(rt.alloc(), text)?,
-                fault,
-                "{}",
-                text.escape_ascii()
-            );
+fn check_faults(rt: &(impl Abort + AllocGlobal), table: &str) -> Result<(), NoMemory> {
+    for row in table.lines() {
+        if let Some((text, wanted)) = row.split_once(" => ") {
+            let text = text_of(rt.alloc(), text)?;
+            if text.len() <= 67108864 {
+                assert_eq!(rt; fault_in(rt.alloc(), &text)?.as_str(), wanted, "{row}");
+            }
         }
     }
     Ok(())
+}
+
+// Texts, and the line and the kind of their first fault.
+const FAULTS: &str = "\
+go x1/ => 1 1
+.func a/addi x1,x0,4096/.end/ => 2 3
+.func a/jal x0,b/.end/ => 2 4
+.func a/ => 1 6
+ => 1 4
+.func f/.end/.data/nop;go/ => 4 1
+.func f/.end/.data/.byte x;nop/ => 4 7
+.func f/.func g;addi x1,x2/.end => 2 2
+.func f/f: .func g/.end => 2 6
+.func f/f: jal x0,b/.end => 2 5
+.func f/jal x0,b;addi x1,x1,2048/.end => 2 4
+.func f/.nops 4194305;addi x1,x1,2048/.end => 2 3
+.func f/.nops 4194305/.end => 2 8
+.func f/.end/.data/.space 16777217 => 4 8
+.func f/.end/.data/.space 16777216 => none
+.func f/.nops 4194304/.end => none
+.func f/.end/.data/.space 99999999999999999999999999 => 4 8
+.func f/.nops -1/.end => 2 3
+.func f/.end/.data/nop/ => 4 7
+.func f/.end/.data/a:/ => 4 7
+.func f/.end/.data/.func g/ => 4 7
+.func f/.end/.data/.end/ => 4 7
+.func f/.end/.data/.nops 1/ => 4 7
+.func f/.end/.data/call f/ => 4 7
+.func f/.end/.byte 1/ => 3 7
+.func f/.end/.dword 1/ => 3 7
+.func f/.end/.space 1/ => 3 7
+.func f/.end/.ascii \"a\"/ => 3 7
+.func f/.end/.object o/ => 3 7
+.func f/.end/.endobject/ => 3 7
+.func f/.end/.slot f/ => 3 7
+.func f/.end/.word 1/.data/.word 1/.text/.entry f/.data/.entry f => none
+.func f/jal x0,a/.end/.data/a: .byte 1/ => 2 4
+.func f/jal x0,a/.end/a: addi x1/ => 2 4
+.func f/.end/.func g/.func h/.end => 4 6
+.func f/.func g/ => 1 6
+.func f/.end/.data/.object o/.object p/.endobject => 5 6
+.func f/.end/.data/.object o => 4 6
+.func f/.end/.end => 3 6
+.func f/.end/.data/.endobject => 4 6
+.func f/.end/.func f/.end => 3 5
+.func f/.end/.data/.object f/.endobject => 4 5
+.func f/a: a: nop/.end => 2 5
+.func f/a: call a/.end => 2 4
+.func f/jal x0,o/.end/.data/.object o/.endobject => 2 4
+.func f/.end/.entry g => 3 4
+.func f/.end/.data/.slot o/.object o/.endobject => 4 4
+.func f/beq x1,x2,b/.end => 2 4
+.func f/.end/.data/.byte -129 => 4 3
+.func f/.end/.data/.byte -128 => none
+.func f/.end/.data/.byte 255 => none
+.func f/.end/.data/.byte 256 => 4 3
+.func f/.end/.data/.dword -9223372036854775809 => 4 3
+.func f/.end/.data/.dword 18446744073709551615 => none
+.func f/.end/.data/.word 4294967296 => 4 3
+.func f/.end/.data/.word -2147483648 => none
+.func f/slli x1,x1,64/.end => 2 3
+.func f/slliw x1,x1,32/.end => 2 3
+.func f/slliw x1,x1,31/.end => none
+.func f/lui x1,1048576/.end => 2 3
+.func f/lui x1,-1/.end => 2 3
+.func f/ld x1,2048(x2)/.end => 2 3
+.func f/sd x1,-2049(x2)/.end => 2 3
+.func f/jal x0,65541/.end => 2 3
+.func f/jal x0,-4/.end => 2 3
+.func f/beq x1,x2,69632/.end => 2 3
+.func f/beq x1,x2,69630/.end => none
+.func f/addi x1,x2/.end => 2 2
+.func f/addi x1,x32,0/.end => 2 2
+.func f/addi x01,x1,0/.end => 2 2
+.func f/ld x1,(x2)/.end => 2 2
+.func f/ld x1,0/.end => 2 2
+.func f/lr.d x1,0(x2)/.end => 2 2
+.func f/ret x1/.end => 2 2
+.func f/jal x1,1a/.end => 2 2
+.func f/addi x1,x1,0X10/.end => 2 2
+.func f/addi x1,x1,-0x10/.end => 2 2
+.func f/ret\r/.end => 2 2
+.func f/nop ,/.end => 2 2
+.func f/addi x1,x1,1,/.end => 2 2
+.func f/.word \"a\"/.end => 2 2
+.func f/lr.d.aq x1,(x2)/.end => 2 1
+.func f/amoadd.q x1,x2,(x3)/.end => 2 1
+.func f/1a: nop/.end => 2 1
+.func f/ADD x1,x1,x1/.end => 2 1
+.func f/a b: nop/.end => 2 1
+.func f/, nop/.end => 2 1
+.func f/.end/.data/.ascii \"a => 4 2
+.func f/.end/.data/.ascii \"a\\t\" => 4 2
+.func f/.end/.data/.ascii \"a\" \"b\" => 4 2
+.func f/.end/.data/.ascii \"\" => none
+.func f/.end/.data/.ascii a => 4 2
+.func f/.end/.data/.ascii \"a;b#c\\n\"; .byte 1 # 2 => none";
+
+#[test]
+fn the_first_fault_is_told(rt: HostRuntime) -> Result<(), NoMemory> {
+    check_faults(&rt, FAULTS)
+}
+
+// Two faults in one line, of which the second statement's is told: each two of the kinds 1, 7, 2, 6, 5, 4, 3 and 8.
+const PAIRS: &str = "\
+.func f/.byte 1;go/.end => 2 1
+.func f/ret x1;go/.end => 2 1
+.func f/.func g;go/.end => 2 1
+.func f/f: nop;go/.end => 2 1
+.func f/jal x0,b;go/.end => 2 1
+.func f/addi x1,x1,2048;go/.end => 2 1
+.func f/.nops 4194305;go/.end => 2 1
+.func f/ret x1;.byte 1/.end => 2 7
+.func f/.func g;.byte 1/.end => 2 7
+.func f/f: nop;.byte 1/.end => 2 7
+.func f/jal x0,b;.byte 1/.end => 2 7
+.func f/addi x1,x1,2048;.byte 1/.end => 2 7
+.func f/.nops 4194305;.byte 1/.end => 2 7
+.func f/.func g;ret x1/.end => 2 2
+.func f/f: nop;ret x1/.end => 2 2
+.func f/jal x0,b;ret x1/.end => 2 2
+.func f/addi x1,x1,2048;ret x1/.end => 2 2
+.func f/.nops 4194305;ret x1/.end => 2 2
+.func f/f: nop;.func g/.end => 2 6
+.func f/jal x0,b;.func g/.end => 2 6
+.func f/addi x1,x1,2048;.func g/.end => 2 6
+.func f/.nops 4194305;.func g/.end => 2 6
+.func f/jal x0,b;f: nop/.end => 2 5
+.func f/addi x1,x1,2048;f: nop/.end => 2 5
+.func f/.nops 4194305;f: nop/.end => 2 5
+.func f/addi x1,x1,2048;jal x0,b/.end => 2 4
+.func f/.nops 4194305;jal x0,b/.end => 2 4
+.func f/.nops 4194305;addi x1,x1,2048/.end => 2 3";
+
+#[test]
+fn of_two_faults_in_a_line_one_is_told(rt: HostRuntime) -> Result<(), NoMemory> {
+    check_faults(&rt, PAIRS)
 }
 
 const WORDS: [(&[u8], u32); 93] = [
