@@ -48,8 +48,18 @@ facts_of p = (p.text_limit, p.data_limit, p.sound_funcs, p.sound_objects, p.shor
 
 abbrev made_of : (l : Lists) → Facts l → Program
 made_of l f = record {
-  text = l.0; bytes = l.1; entry = l.2; funcs = l.3; objects = l.4; fixups = l.5;
-  text_limit = f.0; data_limit = f.1; sound_funcs = f.2; sound_objects = f.3; short_names = f.4; aims = f.5;
+  text = l.0;
+  bytes = l.1;
+  entry = l.2;
+  funcs = l.3;
+  objects = l.4;
+  fixups = l.5;
+  text_limit = f.0;
+  data_limit = f.1;
+  sound_funcs = f.2;
+  sound_objects = f.3;
+  short_names = f.4;
+  aims = f.5;
 }
 
 made_once : (l k : Lists) (f : Facts l) (g : Facts k) → l ≡ k → made_of l f ≡ made_of k g
