@@ -4,7 +4,7 @@ ghost use Rattle.std.specs.Prelude.{◌≡◌, ◌≢◌, ◌⊎◌, ℕ, ◌≤
 ghost use Rattle.std.specs.Option.{ForSome};
 ghost use Rattle.oc_base.specs.Outside.{Rose, Asks, Disk, gained, GainedPart, TakeFailed};
 ghost use Rattle.guest_gen.specs.Answer.{status_of};
-ghost use Rattle.guest_gen.specs.Cause.{Because, Reason, InputFailed, Decided, Ends, Delivered, Settles, AsksFor, AllDone};
+ghost use Rattle.guest_gen.specs.Cause.{Because, Reason, InputFailed, Decided, FileWritten, Ends, Delivered, Settles, AsksFor, AllDone};
 ghost use Rattle.guest_gen.specs.Decision.{form_of, within, Assembles, Decides, names_of};
 ghost use Rattle.guest_gen.specs.declared.answer.MadeWhat.{MadeWhat};
 ghost use Rattle.guest_gen.specs.declared.decision.NewFile.{NewFile};
@@ -14,7 +14,7 @@ ghost use Rattle.rv_asm.specs.declared.fault.AsmFault.{AsmFault};
 use crate::TEXT_LIMIT;
 use crate::answer::{Made, MadeWhat, status};
 use crate::decision::{NewFile, Refusal};
-use elf_make::make_elf;
+use elf_make::make::make_elf;
 use oc_base::fault::TakeFault;
 use oc_base::files::Files;
 use oc_base::sink::{Sink, write_all};
@@ -152,8 +152,9 @@ pub fn make<F: Files, O: Sink, E: Sink>(
 
     // Where the files tell: after `Done` the file of the second word holds the program of the first word's text, every other
     // file holds what it did, and nothing is on `err`.
-    ensures done { result.what ≡ MadeWhat.Done → ForSome (F.disk files.old) (λ disk. AllDone (map string_bytes words.now) disk
-        (F.disk files.old) (F.disk files.new) (E.holds err.old) (E.holds err.new) result.what) }
+    ensures done { result.what ≡ MadeWhat.Done → ForSome (F.disk files.old) (λ disk.
+        (file : NewFile) × Decides (map string_bytes words.now) disk (Ok file)
+        × FileWritten file (F.disk files.old) (F.disk files.new) (E.holds err.old) (E.holds err.new) result.what) }
 
     // The answer is the one that the words and the files ask for, but for a fault of a device and for want of memory.
     ensures answer { ForSome (F.disk files.old) (λ disk. Settles (AsksFor (map string_bytes words.now) disk) result.what) }
