@@ -1,5 +1,9 @@
 //! The file of a program: an executable that holds its words, bytes, symbols and relocations.
 #![tactic(auto)]
 
+pub mod bytes;
+pub mod entries;
 pub mod make;
 pub mod rows;
+pub mod sections;
+pub mod tables;

@@ -1,0 +1,6 @@
+pub mod OneMore
+pub mod Lengths
+pub mod Holding
+pub mod Reading
+pub mod Wholly
+pub mod Standing
