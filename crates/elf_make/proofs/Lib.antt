@@ -4,3 +4,5 @@ pub mod Holding
 pub mod Reading
 pub mod Wholly
 pub mod Standing
+pub mod Found
+pub mod ReadTables
