@@ -6,3 +6,4 @@ pub mod Wholly
 pub mod Standing
 pub mod Found
 pub mod ReadTables
+pub mod NoFault
