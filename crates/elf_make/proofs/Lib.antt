@@ -7,3 +7,5 @@ pub mod Standing
 pub mod Found
 pub mod ReadTables
 pub mod NoFault
+pub mod NamesBack
+pub mod PartsBack

@@ -2,9 +2,13 @@
 
 ghost use Rattle.std.specs.Prelude.{◌≡◌, ◌+◌, ◌^◌, ◌<◌, ◌≤◌, ◌++◌, [], length, drop, replicate, IfOk, OnOk, Some, None};
 ghost use Rattle.std.specs.List.{All, filter, flat_map};
+ghost use Rattle.elf_read.specs.Faults.{fault_of};
+ghost use Rattle.elf_read.specs.Parts.{parts_of};
+ghost use Rattle.elf_read.specs.declared.fault.ElfFault.TheVariants.{NoText};
 ghost use Rattle.elf_make.specs.Bytes.{laid};
 ghost use Rattle.elf_make.specs.Rows.{file_header, program_header, section_header, relocation};
 ghost use Rattle.elf_make.specs.File.{text_bytes, text_size, data_offset, segments, sections, sections_at, header_of, symbol_table, names, is_of, section_names, section_names_at, loaded_parts, table_parts, elf_of};
+ghost use Rattle.elf_make.specs.Parts.{elf_parts};
 ghost use Rattle.elf_make.specs.Places.{places};
 ghost use Rattle.elf_make.specs.Ranges.{IsInRange, IsFixupInRange, IsProgramInRange};
 
@@ -204,9 +208,13 @@ fn whole(alloc: Global, p: &Program) -> Result<Vec<u8>, NoMemory>
     Ok(file)
 }
 
-/// The file of a program.
+/// The file of a program. Where the program has a word of text, reading the file gives the program's parts, and
+/// where it has none, that there is no text.
 pub fn make_elf(alloc: Global, p: &Program) -> Result<Items<u8>, NoMemory>
     ensures file { IfOk result (λ bytes. bytes ≡ elf_of p.now) }
+    ensures no_fault { IfOk result (λ bytes. 0 < length p.now.text → fault_of bytes ≡ None) }
+    ensures read_back { IfOk result (λ bytes. 0 < length p.now.text → parts_of bytes ≡ elf_parts p.now) }
+    ensures no_text { IfOk result (λ bytes. p.now.text ≡ [] → fault_of bytes ≡ Some NoText) }
 {
     let file = whole(alloc, p)?;
     Ok(Items::from_vec(file))
