@@ -23,7 +23,7 @@ use Rattle.elf_make.proofs.Lengths.{length-flat, length-symbol_entry}
 use Rattle.elf_make.proofs.Holding.{Holds, held_first, held_next}
 use Rattle.elf_make.proofs.Reading.{FitsSymbol, Each, each_of, read_symbol, read_table}
 use Rattle.elf_make.proofs.Standing.{Stands, stands}
-use Rattle.elf_make.proofs.ReadTables.{Keeps}
+use Rattle.elf_make.proofs.ReadTables.{Fits}
 
 -- ---- names
 
@@ -78,17 +78,17 @@ null_read : (texts : List ℕ) → name_at texts 0 ≡ [] → symbol texts no_sy
 unfolding symbol
 null_read texts e = rw e refl
 
-pub names_back : (p : Program) → Keeps p → map (symbol (names p)) (symbol_entries p) ≡ null_symbol ∷ (map (symbol_of 2 1) p.funcs ++ map (symbol_of 1 2) p.objects)
+pub names_back : (p : Program) → Fits p → map (symbol (names p)) (symbol_entries p) ≡ null_symbol ∷ (map (symbol_of 2 1) p.funcs ++ map (symbol_of 1 2) p.objects)
 unfolding symbol_entries
-names_back p keeps =
+names_back p fits =
     let texts = names p in
     let first = flat_map ended (map name_of p.funcs) in
     let second = flat_map ended (map name_of p.objects) in
     let held = names_held p in
     let next = 1 + sum_by symbol_size p.funcs in
     let place : next ≡ 1 + length first = let e = length-names p.funcs in omega arith in
-    let funcs = symbols_read texts 2 1 1 p.funcs (each_of IsSound p.funcs keeps.sound_funcs) (held_first texts 1 first second held) in
-    let objects = symbols_read texts 1 2 next p.objects (each_of IsSound p.objects keeps.sound_objects) (held_next texts 1 first second next place held) in
+    let funcs = symbols_read texts 2 1 1 p.funcs (each_of IsSound p.funcs p.sound_funcs) (held_first texts 1 first second held) in
+    let objects = symbols_read texts 1 2 next p.objects (each_of IsSound p.objects p.sound_objects) (held_next texts 1 first second next place held) in
     let null = null_read texts (no_name p) in
     let joined = map-append (symbol texts) (symbols_of 2 1 1 p.funcs) (symbols_of 1 2 next p.objects) in
     rw (null, joined, funcs, objects) refl
@@ -107,23 +107,23 @@ pub each_append : {X : Type 0} (P : X → Type 0) (xs ys : List X) → Each P xs
 each_append P [] ys a b = b
 each_append P (x ∷ xs) ys a b = (a.0, each_append P xs ys a.1 b)
 
-fits_entries : (p : Program) → Keeps p → Each FitsSymbol (symbol_entries p)
+fits_entries : (p : Program) → Fits p → Each FitsSymbol (symbol_entries p)
 unfolding symbol_entries
-fits_entries p keeps =
-    let short = keeps.short_names in
+fits_entries p fits =
+    let short = p.short_names in
     let next = 1 + sum_by symbol_size p.funcs in
     (record { name = omega arith; info = omega arith; section = omega arith; value = omega arith; size = omega arith },
     each_append FitsSymbol (symbols_of 2 1 1 p.funcs) (symbols_of 1 2 next p.objects)
-    (fits_symbols 2 1 1 p.funcs (omega arith) (omega arith) (omega arith) (each_of IsInRange p.funcs keeps.ranges.funcs))
-    (fits_symbols 1 2 next p.objects (omega arith) (omega arith) (omega arith) (each_of IsInRange p.objects keeps.ranges.objects)))
+    (fits_symbols 2 1 1 p.funcs (omega arith) (omega arith) (omega arith) (each_of IsInRange p.funcs fits.ranges.funcs))
+    (fits_symbols 1 2 next p.objects (omega arith) (omega arith) (omega arith) (each_of IsInRange p.objects fits.ranges.objects)))
 
 pub times_24 : (k n : ℕ) → n ≡ 24 * k → n / 24 ≡ k
 times_24 k n h = omega arith
 
-pub symbols_back : (p : Program) → Keeps p → read.table 24 read.symbol_entry (elf_of p) (symbols_at p) (length (symbol_table p) / 24) ≡ symbol_entries p
+pub symbols_back : (p : Program) → Fits p → read.table 24 read.symbol_entry (elf_of p) (symbols_at p) (length (symbol_table p) / 24) ≡ symbol_entries p
 unfolding symbol_table
-symbols_back p keeps =
+symbols_back p fits =
     let count = times_24 (length (symbol_entries p)) (length (flat_map symbol_entry (symbol_entries p))) (length-flat symbol_entry 24 length-symbol_entry (symbol_entries p)) in
     ap (read.table 24 read.symbol_entry (elf_of p) (symbols_at p)) count
-    ∙ read_table 24 read.symbol_entry symbol_entry (λ (e : SymbolEntry). e) FitsSymbol (elf_of p) (read_symbol (elf_of p)) length-symbol_entry (symbols_at p) (symbol_entries p) (fits_entries p keeps) (stands p).symbols
+    ∙ read_table 24 read.symbol_entry symbol_entry (λ (e : SymbolEntry). e) FitsSymbol (elf_of p) (read_symbol (elf_of p)) length-symbol_entry (symbols_at p) (symbol_entries p) (fits_entries p fits) (stands p).symbols
     ∙ map-id (symbol_entries p)

@@ -22,7 +22,7 @@ use Rattle.elf_make.proofs.Holding.{Holds}
 use Rattle.elf_make.proofs.Reading.{Each, header_read, begins}
 use Rattle.elf_make.proofs.Standing.{Stands, stands, text_header, data_header, text_len}
 use Rattle.elf_make.proofs.Found.{Spots, rows_of, spots, found_text, has_text, text_sum, symbols_place}
-use Rattle.elf_make.proofs.ReadTables.{Keeps, each_maybe, head_read, segments_read, rows_read}
+use Rattle.elf_make.proofs.ReadTables.{Fits, each_maybe, head_read, segments_read, rows_read}
 
 -- the tests, one after another
 by_tests : (file : List ℕ) (h : Header) (hs : List ProgramHeader) (ss : List SectionHeader) → read_.header_of file ≡ h → program_headers file ≡ hs → section_headers file ≡ ss → is_elf file ≡ true → nat_lt (length file) 64 ≡ false → is_riscv64_exec h ≡ true → h.flags ≡ 0 → is_outside (length file) h.program_headers (56 * h.program_header_count) ≡ false → is_outside (length file) h.section_headers (64 * h.section_header_count) ≡ false → first_outside_segment (length file) hs ≡ None → first_outside_section (length file) ss ≡ None → first_bad_segment hs ≡ None → is_too_large hs ss ≡ false → fault_of file ≡ first_of (when (not (list_any is_text ss)) NoText ∷ when (not (is_some (position is_symbols ss))) NoSymbols ∷ [])
@@ -99,11 +99,11 @@ unfolding first_bad_segment
 none_bad true t d x y = rw (x, y) refl
 none_bad false t d x y = rw x refl
 
-no_bad_segment : (p : Program) → Keeps p → first_bad_segment (segments p) ≡ None
+no_bad_segment : (p : Program) → Fits p → first_bad_segment (segments p) ≡ None
 unfolding segments
-no_bad_segment p keeps =
-    let t = keeps.text_limit in
-    let d = keeps.data_limit in
+no_bad_segment p fits =
+    let t = p.text_limit in
+    let d = p.data_limit in
     none_bad (has_data p) (text_header p) (data_header p)
     (not_bad 5 0x1000 0x10000 (text_size p) (omega arith))
     (not_bad_after (text_header p) 6 (data_offset p) (data_address p) (length p.bytes) (omega arith) (omega arith))
@@ -123,11 +123,11 @@ segments_inside p =
 in_space : (flags offset address size : ℕ) → 0x1000 ≤ address → address + size ≤ 0x08000000 → leaves_space (segment flags offset address size) ≡ false
 in_space flags offset address size low high = and_false (is_loaded (segment flags offset address size)) _ (rw (not_less address 0x1000 low, not_less 0x08000000 (address + size) high) refl)
 
-no_space_left : (p : Program) → Keeps p → list_any leaves_space (segments p) ≡ false
+no_space_left : (p : Program) → Fits p → list_any leaves_space (segments p) ≡ false
 unfolding segments
-no_space_left p keeps =
-    let t = keeps.text_limit in
-    let d = keeps.data_limit in
+no_space_left p fits =
+    let t = p.text_limit in
+    let d = p.data_limit in
     any_of_two leaves_space (has_data p) (text_header p) (data_header p)
     (in_space 5 0x1000 0x10000 (text_size p) (omega arith) (omega arith))
     (in_space 6 (data_offset p) (data_address p) (length p.bytes) (omega arith) (omega arith))
@@ -148,17 +148,17 @@ sections_inside p =
     (inside len s.data_relocs s.data_relocs_size st.data_relocs.within,
     (inside len s.titles s.titles_size st.titles.within, record {}))))))))
 
-fits_space : (p : Program) → Keeps p → is_too_large (segments p) (rows_of (has_data p) (spots p)) ≡ false
+fits_space : (p : Program) → Fits p → is_too_large (segments p) (rows_of (has_data p) (spots p)) ≡ false
 unfolding is_too_large
-fits_space p keeps =
-    let t = keeps.text_limit in
+fits_space p fits =
+    let t = p.text_limit in
     let sum = text_sum (nat_lt 0 (text_size p)) (spots p) in
-    rw (no_space_left p keeps, found_text (has_data p) (spots p)) (not_less 16777216 _ (omega arith))
+    rw (no_space_left p fits, found_text (has_data p) (spots p)) (not_less 16777216 _ (omega arith))
 
 -- ---- the whole
 
-fault_left : (p : Program) → Keeps p → fault_of (elf_of p) ≡ first_of (when (not (nat_lt 0 (text_size p))) NoText ∷ None ∷ [])
-fault_left p keeps =
+fault_left : (p : Program) → Fits p → fault_of (elf_of p) ≡ first_of (when (not (nat_lt 0 (text_size p))) NoText ∷ None ∷ [])
+fault_left p fits =
     let st = stands p in
     let b = has_data p in
     let s = spots p in
@@ -167,17 +167,17 @@ fault_left p keeps =
     let ends = st.section_headers.within in
     let section_size = length-flat section_header 64 length-section_header (sections p) in
     let len = length (elf_of p) in
-    by_tests (elf_of p) (header_read (header_of p)) (segments p) (rows_of b s) (head_read p keeps) (segments_read p keeps) (rows_read p keeps)
+    by_tests (elf_of p) (header_read (header_of p)) (segments p) (rows_of b s) (head_read p fits) (segments_read p fits) (rows_read p fits)
     (elf_file p) (not_less len 64 (omega arith)) (exec (header_of p)) refl
     (inside len 64 (56 * length (segments p)) (omega arith))
     (inside len (sections_at p) (64 * length (sections p)) (omega arith))
-    (segments_inside p) (sections_inside p) (no_bad_segment p keeps) (fits_space p keeps)
+    (segments_inside p) (sections_inside p) (no_bad_segment p fits) (fits_space p fits)
     ∙ rw (has_text b s, symbols_place b s) refl
 
-pub no_fault : (p : Program) → Keeps p → 0 < length p.text → fault_of (elf_of p) ≡ None
-no_fault p keeps some = fault_left p keeps ∙ ap (λ b. first_of (when (not b) NoText ∷ None ∷ [])) (less 0 (text_size p) (omega arith))
+pub no_fault : (p : Program) → Fits p → 0 < length p.text → fault_of (elf_of p) ≡ None
+no_fault p fits some = fault_left p fits ∙ ap (λ b. first_of (when (not b) NoText ∷ None ∷ [])) (less 0 (text_size p) (omega arith))
 
-pub no_text : (p : Program) → Keeps p → p.text ≡ [] → fault_of (elf_of p) ≡ Some NoText
-no_text p keeps none =
+pub no_text : (p : Program) → Fits p → p.text ≡ [] → fault_of (elf_of p) ≡ Some NoText
+no_text p fits none =
     let size : length p.text ≡ 0 = ap length none in
-    fault_left p keeps ∙ ap (λ b. first_of (when (not b) NoText ∷ None ∷ [])) (not_less 0 (text_size p) (omega arith))
+    fault_left p fits ∙ ap (λ b. first_of (when (not b) NoText ∷ None ∷ [])) (not_less 0 (text_size p) (omega arith))

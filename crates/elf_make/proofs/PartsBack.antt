@@ -30,7 +30,7 @@ use Rattle.elf_make.proofs.Holding.{Holds, cut}
 use Rattle.elf_make.proofs.Reading.{FitsFixup, Each, each_of, header_read, read_reloc, read_table}
 use Rattle.elf_make.proofs.Standing.{Stands, stands, text_header, data_header, text_len}
 use Rattle.elf_make.proofs.Found.{Spots, rows_of, spots, symbols_row, strings_row, text_relocs_row, data_relocs_row, header_part, found_symbols, found_strings, found_relocs, symbols_number_is}
-use Rattle.elf_make.proofs.ReadTables.{Keeps, head_read, segments_read, sections_read, rows_read}
+use Rattle.elf_make.proofs.ReadTables.{Fits, head_read, segments_read, sections_read, rows_read}
 use Rattle.elf_make.proofs.NamesBack.{names_back, symbols_back, times_24}
 
 less : (m n : ℕ) → m < n → nat_lt m n ≡ true
@@ -69,9 +69,9 @@ strings_back : (p : Program) → back.strings (elf_of p) (rows_of (has_data p) (
 unfolding back.strings
 strings_back p = rw (found_strings (has_data p) (spots p)) (cut_at (elf_of p) (names_at p) (names p) (length (names p)) refl (stands p).strings)
 
-symbols_are : (p : Program) → Keeps p → back.symbols (elf_of p) (rows_of (has_data p) (spots p)) ≡ null_symbol ∷ (map (symbol_of 2 1) p.funcs ++ map (symbol_of 1 2) p.objects)
+symbols_are : (p : Program) → Fits p → back.symbols (elf_of p) (rows_of (has_data p) (spots p)) ≡ null_symbol ∷ (map (symbol_of 2 1) p.funcs ++ map (symbol_of 1 2) p.objects)
 unfolding back.symbols
-symbols_are p keeps = rw (found_symbols (has_data p) (spots p), strings_back p, symbols_back p keeps) (names_back p keeps)
+symbols_are p fits = rw (found_symbols (has_data p) (spots p), strings_back p, symbols_back p fits) (names_back p fits)
 
 -- ---- relocations
 
@@ -92,12 +92,12 @@ record Aims (n : ℕ) (f : Fixup) : Type 0 where
   fits : FitsFixup f
   below : f.func + 1 < n
 
-aims : (p : Program) (n : ℕ) → Keeps p → length p.funcs < n → Each (Aims n) p.fixups
-aims p n keeps h = each_of (Aims n) p.fixups (λ i d lt.
-    let aim = keeps.aims i d lt in
-    let at = (keeps.ranges.fixups i d lt).0 in
-    let kind = (keeps.ranges.fixups i d lt).1 in
-    let short = keeps.short_names in
+aims : (p : Program) (n : ℕ) → Fits p → length p.funcs < n → Each (Aims n) p.fixups
+aims p n fits h = each_of (Aims n) p.fixups (λ i d lt.
+    let aim = p.aims i d lt in
+    let at = (fits.ranges.fixups i d lt).0 in
+    let kind = (fits.ranges.fixups i d lt).1 in
+    let short = p.short_names in
     let count = few p.funcs in
     record { fits = record { at = omega arith; kind = omega arith; func = omega arith }; below = omega arith })
 
@@ -116,17 +116,17 @@ relocs_back p n at fs s each held place size =
     rw (place, size, count, read_table 24 read.reloc relocation reloc_of FitsFixup (elf_of p) (read_reloc (elf_of p)) length-relocation at fs (each_fits n fs each) held)
     (all_pass (λ r. nat_lt r.symbol n) (map reloc_of fs) (each_below n fs each))
 
-text_relocs_back : (p : Program) (n : ℕ) → Keeps p → length p.funcs < n → back.relocs_of (elf_of p) n (text_relocs_row (has_data p) (spots p)) ≡ map reloc_of (in_text p.fixups)
+text_relocs_back : (p : Program) (n : ℕ) → Fits p → length p.funcs < n → back.relocs_of (elf_of p) n (text_relocs_row (has_data p) (spots p)) ≡ map reloc_of (in_text p.fixups)
 unfolding text_relocations
-text_relocs_back p n keeps h = relocs_back p n (text_relocations_at p) (in_text p.fixups) (text_relocs_row (has_data p) (spots p)) (each_filter (Aims n) (is_of false) p.fixups (aims p n keeps h)) (stands p).text_relocs refl refl
+text_relocs_back p n fits h = relocs_back p n (text_relocations_at p) (in_text p.fixups) (text_relocs_row (has_data p) (spots p)) (each_filter (Aims n) (is_of false) p.fixups (aims p n fits h)) (stands p).text_relocs refl refl
 
-data_relocs_back : (p : Program) (n : ℕ) → Keeps p → length p.funcs < n → back.relocs_of (elf_of p) n (data_relocs_row (has_data p) (spots p)) ≡ map reloc_of (in_data p.fixups)
+data_relocs_back : (p : Program) (n : ℕ) → Fits p → length p.funcs < n → back.relocs_of (elf_of p) n (data_relocs_row (has_data p) (spots p)) ≡ map reloc_of (in_data p.fixups)
 unfolding data_relocations
-data_relocs_back p n keeps h = relocs_back p n (data_relocations_at p) (in_data p.fixups) (data_relocs_row (has_data p) (spots p)) (each_filter (Aims n) (is_of true) p.fixups (aims p n keeps h)) (stands p).data_relocs refl refl
+data_relocs_back p n fits h = relocs_back p n (data_relocations_at p) (in_data p.fixups) (data_relocs_row (has_data p) (spots p)) (each_filter (Aims n) (is_of true) p.fixups (aims p n fits h)) (stands p).data_relocs refl refl
 
-relocs_are : (p : Program) (n : ℕ) → Keeps p → length p.funcs < n → back.relocs (elf_of p) (rows_of (has_data p) (spots p)) (if has_data p then 3 else 2) n ≡ map reloc_of (in_text p.fixups) ++ map reloc_of (in_data p.fixups)
+relocs_are : (p : Program) (n : ℕ) → Fits p → length p.funcs < n → back.relocs (elf_of p) (rows_of (has_data p) (spots p)) (if has_data p then 3 else 2) n ≡ map reloc_of (in_text p.fixups) ++ map reloc_of (in_data p.fixups)
 unfolding back.relocs
-relocs_are p n keeps h = rw (found_relocs (has_data p) (spots p), text_relocs_back p n keeps h, data_relocs_back p n keeps h, append-nil (map reloc_of (in_data p.fixups))) refl
+relocs_are p n fits h = rw (found_relocs (has_data p) (spots p), text_relocs_back p n fits h, data_relocs_back p n fits h, append-nil (map reloc_of (in_data p.fixups))) refl
 
 -- ---- the whole
 
@@ -148,11 +148,11 @@ found p = null_symbol ∷ (map (symbol_of 2 1) p.funcs ++ map (symbol_of 1 2) p.
 enough : (p : Program) → length p.funcs < length (found p)
 enough p = omega (arith, length-append (map (symbol_of 2 1) p.funcs) (map (symbol_of 1 2) p.objects), length-map p.funcs (symbol_of 2 1))
 
-pub parts_back : (p : Program) → Keeps p → 0 < length p.text → parts_of (elf_of p) ≡ elf_parts p
+pub parts_back : (p : Program) → Fits p → 0 < length p.text → parts_of (elf_of p) ≡ elf_parts p
 unfolding parts_of elf_parts
-parts_back p keeps some =
+parts_back p fits some =
     let file = elf_of p in
-    let rows = rows_read p keeps in
-    let secs : map back.section (section_headers file) ≡ map section_of (sections p) = ap (map back.section) (sections_read p keeps) ∙ sections_back (sections p) in
-    let syms : back.symbols file (section_headers file) ≡ found p = ap (back.symbols file) rows ∙ symbols_are p keeps in
-    rw (head_read p keeps, segments_read p keeps, segments_back p some, segment_count p, secs, syms, rows, symbols_number_is (has_data p) (spots p), relocs_are p (length (found p)) keeps (enough p)) refl
+    let rows = rows_read p fits in
+    let secs : map back.section (section_headers file) ≡ map section_of (sections p) = ap (map back.section) (sections_read p fits) ∙ sections_back (sections p) in
+    let syms : back.symbols file (section_headers file) ≡ found p = ap (back.symbols file) rows ∙ symbols_are p fits in
+    rw (head_read p fits, segments_read p fits, segments_back p some, segment_count p, secs, syms, rows, symbols_number_is (has_data p) (spots p), relocs_are p (length (found p)) fits (enough p)) refl

@@ -21,14 +21,8 @@ use Rattle.elf_make.proofs.Reading.{FitsSegment, FitsSection, FitsHeader, Each, 
 use Rattle.elf_make.proofs.Standing.{Stands, stands, text_header, data_header, few_segments, text_len}
 use Rattle.elf_make.proofs.Found.{rows_of, spots, header_part, rows_are}
 
--- what a program keeps, and a file that fits in memory
-pub record Keeps (p : Program) : Type 0 where
-  pub text_limit : 4 * length p.text ≤ 16777216
-  pub data_limit : length p.bytes ≤ 16777216
-  pub sound_funcs : All IsSound p.funcs
-  pub sound_objects : All IsSound p.objects
-  pub short_names : sum_by symbol_size p.funcs + sum_by symbol_size p.objects < 2 ^ 31
-  pub aims : All (λ (f : Fixup). f.func < length p.funcs) p.fixups
+-- the program's numbers fit their types, and its file fits in memory
+pub record Fits (p : Program) : Type 0 where
   pub ranges : IsProgramInRange p
   pub size : length (elf_of p) < 2 ^ 64
 
@@ -48,13 +42,13 @@ few_sections : (p : Program) → length (sections p) ≤ 8
 unfolding sections
 few_sections p = let few = eight_at_most (has_data p) (loaded_section 7 3 (data_address p) (data_offset p) (length p.bytes) 8) (tables p) 5 (omega arith) in omega arith
 
-pub head_read : (p : Program) → Keeps p → read_.header_of (elf_of p) ≡ header_read (header_of p)
-head_read p keeps =
+pub head_read : (p : Program) → Fits p → read_.header_of (elf_of p) ≡ header_read (header_of p)
+head_read p fits =
     let file = elf_of p in
     let st = stands p in
     let end_ = st.section_headers.within in
-    let size = keeps.size in
-    let entry = keeps.ranges.entry in
+    let size = fits.size in
+    let entry = fits.ranges.entry in
     let segs = few_segments p in
     let secs = few_sections p in
     read_header file (header_of p) (record { entry = omega arith; section_headers = omega arith; program_header_count = omega arith; section_header_count = omega arith }) st.header
@@ -63,40 +57,40 @@ offset_small : (b : Bool) (n k : ℕ) → n ≤ k → (if b then (n + (4096 - 1)
 offset_small true n k h = omega arith
 offset_small false n k h = omega arith
 
-pub data_offset_small : (p : Program) → Keeps p → data_offset p < 2 ^ 26
-data_offset_small p keeps = let t = keeps.text_limit in let o = offset_small (has_data p) (0x1000 + text_size p) (0x1000 + 16777216) (omega arith) in omega arith
+pub data_offset_small : (p : Program) → Fits p → data_offset p < 2 ^ 26
+data_offset_small p fits = let t = p.text_limit in let o = offset_small (has_data p) (0x1000 + text_size p) (0x1000 + 16777216) (omega arith) in omega arith
 
-fits_text : (p : Program) → Keeps p → FitsSegment (text_header p)
-fits_text p keeps = let t = keeps.text_limit in record { kind = omega arith; flags = omega arith; offset = omega arith; address = omega arith; file_size = omega arith; memory_size = omega arith }
+fits_text : (p : Program) → Fits p → FitsSegment (text_header p)
+fits_text p fits = let t = p.text_limit in record { kind = omega arith; flags = omega arith; offset = omega arith; address = omega arith; file_size = omega arith; memory_size = omega arith }
 
-fits_data : (p : Program) → Keeps p → FitsSegment (data_header p)
-fits_data p keeps =
-    let t = keeps.text_limit in
-    let d = keeps.data_limit in
-    let o = data_offset_small p keeps in
+fits_data : (p : Program) → Fits p → FitsSegment (data_header p)
+fits_data p fits =
+    let t = p.text_limit in
+    let d = p.data_limit in
+    let o = data_offset_small p fits in
     record { kind = omega arith; flags = omega arith; offset = omega arith; address = omega arith; file_size = omega arith; memory_size = omega arith }
 
-fits_segments : (p : Program) → Keeps p → Each FitsSegment (segments p)
+fits_segments : (p : Program) → Fits p → Each FitsSegment (segments p)
 unfolding segments
-fits_segments p keeps = (fits_text p keeps, subst (Each FitsSegment) (maybe_nil (has_data p) (data_header p)) (each_maybe FitsSegment (has_data p) (data_header p) [] (fits_data p keeps) (record {})))
+fits_segments p fits = (fits_text p fits, subst (Each FitsSegment) (maybe_nil (has_data p) (data_header p)) (each_maybe FitsSegment (has_data p) (data_header p) [] (fits_data p fits) (record {})))
 
-pub segments_read : (p : Program) → Keeps p → program_headers (elf_of p) ≡ segments p
+pub segments_read : (p : Program) → Fits p → program_headers (elf_of p) ≡ segments p
 unfolding program_headers
-segments_read p keeps =
-    rw (head_read p keeps)
-    (read_table 56 read.program_header program_header (λ (h : ProgramHeader). h) FitsSegment (elf_of p) (read_program_header (elf_of p)) length-program_header 64 (segments p) (fits_segments p keeps) (stands p).program_headers
+segments_read p fits =
+    rw (head_read p fits)
+    (read_table 56 read.program_header program_header (λ (h : ProgramHeader). h) FitsSegment (elf_of p) (read_program_header (elf_of p)) length-program_header 64 (segments p) (fits_segments p fits) (stands p).program_headers
     ∙ map-id (segments p))
 
-fits_table : (p : Program) → Keeps p → (at : ℕ) (part : List ℕ) → Holds (elf_of p) at part → (name kind link info : ℕ) → kind < 5 → link < 5 → FitsSection (table_section name kind at (length part) link info)
-fits_table p keeps at part held name kind link info k l =
+fits_table : (p : Program) → Fits p → (at : ℕ) (part : List ℕ) → Holds (elf_of p) at part → (name kind link info : ℕ) → kind < 5 → link < 5 → FitsSection (table_section name kind at (length part) link info)
+fits_table p fits at part held name kind link info k l =
     let within = held.within in
-    let size = keeps.size in
+    let size = fits.size in
     record { kind = omega arith; flags = omega arith; address = omega arith; offset = omega arith; size = omega arith; link = omega arith }
 
-fits_strings : (p : Program) → Keeps p → (at : ℕ) (part : List ℕ) → Holds (elf_of p) at part → (name : ℕ) → FitsSection (strings_section name at (length part))
-fits_strings p keeps at part held name =
+fits_strings : (p : Program) → Fits p → (at : ℕ) (part : List ℕ) → Holds (elf_of p) at part → (name : ℕ) → FitsSection (strings_section name at (length part))
+fits_strings p fits at part held name =
     let within = held.within in
-    let size = keeps.size in
+    let size = fits.size in
     record { kind = omega arith; flags = omega arith; address = omega arith; offset = omega arith; size = omega arith; link = omega arith }
 
 fits_null : FitsSection no_section
@@ -109,30 +103,30 @@ number_small : (b : Bool) → (if b then 3 else 2) + 1 < 5
 number_small true = omega arith
 number_small false = omega arith
 
-fits_sections : (p : Program) → Keeps p → Each FitsSection (sections p)
+fits_sections : (p : Program) → Fits p → Each FitsSection (sections p)
 unfolding sections
-fits_sections p keeps =
+fits_sections p fits =
     let st = stands p in
-    let t = keeps.text_limit in
-    let d = keeps.data_limit in
-    let o = data_offset_small p keeps in
+    let t = p.text_limit in
+    let d = p.data_limit in
+    let o = data_offset_small p fits in
     let n = number_small (has_data p) in
     let k = symbols_number p in
     let l = later_names p in
     (fits_null, (fits_loaded 1 6 0x10000 0x1000 (text_size p) 4 (omega arith) (omega arith) (omega arith) (omega arith),
     each_maybe FitsSection (has_data p) (loaded_section 7 3 (data_address p) (data_offset p) (length p.bytes) 8) (tables p)
     (fits_loaded 7 3 (data_address p) (data_offset p) (length p.bytes) 8 (omega arith) (omega arith) (omega arith) (omega arith))
-    (fits_table p keeps (symbols_at p) (symbol_table p) st.symbols l 2 (k + 1) (1 + length p.funcs + length p.objects) (omega arith) n,
-    (fits_strings p keeps (names_at p) (names p) st.strings (l + 8),
-    (fits_table p keeps (text_relocations_at p) (text_relocations p) st.text_relocs (l + 16) 4 k 1 (omega arith) (omega arith),
-    (fits_table p keeps (data_relocations_at p) (data_relocations p) st.data_relocs (l + 27) 4 k (if has_data p then 2 else 0) (omega arith) (omega arith),
-    (fits_strings p keeps (section_names_at p) (section_names p) st.titles (l + 38), record {})))))))
+    (fits_table p fits (symbols_at p) (symbol_table p) st.symbols l 2 (k + 1) (1 + length p.funcs + length p.objects) (omega arith) n,
+    (fits_strings p fits (names_at p) (names p) st.strings (l + 8),
+    (fits_table p fits (text_relocations_at p) (text_relocations p) st.text_relocs (l + 16) 4 k 1 (omega arith) (omega arith),
+    (fits_table p fits (data_relocations_at p) (data_relocations p) st.data_relocs (l + 27) 4 k (if has_data p then 2 else 0) (omega arith) (omega arith),
+    (fits_strings p fits (section_names_at p) (section_names p) st.titles (l + 38), record {})))))))
 
-pub sections_read : (p : Program) → Keeps p → section_headers (elf_of p) ≡ map header_part (sections p)
+pub sections_read : (p : Program) → Fits p → section_headers (elf_of p) ≡ map header_part (sections p)
 unfolding section_headers
-sections_read p keeps =
-    rw (head_read p keeps)
-    (read_table 64 read.section_header section_header header_part FitsSection (elf_of p) (read_section_header (elf_of p)) length-section_header (sections_at p) (sections p) (fits_sections p keeps) (stands p).section_headers)
+sections_read p fits =
+    rw (head_read p fits)
+    (read_table 64 read.section_header section_header header_part FitsSection (elf_of p) (read_section_header (elf_of p)) length-section_header (sections_at p) (sections p) (fits_sections p fits) (stands p).section_headers)
 
-pub rows_read : (p : Program) → Keeps p → section_headers (elf_of p) ≡ rows_of (has_data p) (spots p)
-rows_read p keeps = sections_read p keeps ∙ rows_are p
+pub rows_read : (p : Program) → Fits p → section_headers (elf_of p) ≡ rows_of (has_data p) (spots p)
+rows_read p fits = sections_read p fits ∙ rows_are p

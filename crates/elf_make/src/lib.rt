@@ -4,6 +4,7 @@
 pub mod bytes;
 pub mod entries;
 pub mod make;
+pub mod read_back;
 pub mod rows;
 pub mod sections;
 pub mod tables;
