@@ -8,3 +8,5 @@ pub mod read_back;
 pub mod rows;
 pub mod sections;
 pub mod tables;
+#[cfg(test)]
+mod tests;
