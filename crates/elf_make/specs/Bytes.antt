@@ -3,10 +3,14 @@ use Rattle.std.specs.Prelude.{ℕ, ◌-◌, List, [], ◌∷◌, ◌++◌, lengt
 use Rattle.std.specs.List.{flat_map}
 use Rattle.byteorder.specs.Endian.{little_bytes}
 
--- numbers one after another, little endian: of each its size in bytes and its value
-unfoldable pub fields : List (ℕ × ℕ) → List ℕ
+-- a number in so many bytes, little endian
+unfoldable pub number : ℕ → ℕ → List ℕ
+number size value = little_bytes size value
+
+-- numbers one after another: of each its size in bytes and its value
+abbrev pub fields : List (ℕ × ℕ) → List ℕ
 fields [] = []
-fields (field ∷ rest) = little_bytes field.0 field.1 ++ fields rest
+fields (field ∷ rest) = number field.0 field.1 ++ fields rest
 
 -- a zero byte ends each string
 abbrev pub ended : List ℕ → List ℕ

@@ -1,5 +1,5 @@
 -- The file of a program: its tables, their places, and the whole.
-use Rattle.std.specs.Prelude.{ℕ, ◌+◌, ◌-◌, ◌*◌, Bool, not, ◌==◌, nat_lt, List, [], ◌∷◌, ◌++◌, length, map, codes, if◌then◌else◌}
+use Rattle.std.specs.Prelude.{ℕ, ◌+◌, ◌-◌, ◌*◌, Bool, true, false, not, ◌==◌, nat_lt, List, [], ◌∷◌, ◌++◌, length, map, codes, if◌then◌else◌}
 use Rattle.std.specs.List.{filter, flat_map, sum_by}
 use Rattle.elf_read.specs.declared.tables.ProgramHeader.{ProgramHeader}
 use Rattle.elf_read.specs.declared.tables.SectionHeader.{SectionHeader}
@@ -11,16 +11,13 @@ use Rattle.rv_asm.specs.declared.symbol.Fixup.{Fixup}
 use Rattle.rv_asm.specs.declared.symbol.Named.{Named}
 use Rattle.elf_make.specs.declared.rows.FileHeader.{FileHeader}
 use Rattle.elf_make.specs.declared.rows.SectionRow.{SectionRow}
-use Rattle.elf_make.specs.Bytes.{fields, string_table, laid}
+use Rattle.elf_make.specs.Bytes.{number, string_table, laid}
 use Rattle.elf_make.specs.Rows.{file_header, program_header, section_header, symbol_entry, relocation}
 
 -- ---- text and data
 
-abbrev pub word : ℕ → List ℕ
-word w = fields ((4, w) ∷ [])
-
 unfoldable pub text_bytes : Program → List ℕ
-text_bytes p = flat_map word p.text
+text_bytes p = flat_map (number 4) p.text
 
 abbrev pub text_size : Program → ℕ
 text_size p = 4 * length p.text
@@ -65,19 +62,23 @@ name_of n = n.name
 unfoldable pub names : Program → List ℕ
 names p = string_table (map name_of p.funcs ++ map name_of p.objects)
 
--- ---- relocations: those of slots are in data, and the others in text
+-- ---- relocations: those of slots (2) are in data, and the others in text
 
-abbrev pub is_slot : Fixup → Bool
-is_slot f = f.kind == 2
+abbrev pub is_of : Bool → Fixup → Bool
+is_of true f = f.kind == 2
+is_of false f = not (f.kind == 2)
 
-abbrev pub is_code : Fixup → Bool
-is_code f = not (is_slot f)
+abbrev pub in_text : List Fixup → List Fixup
+in_text fixups = filter (is_of false) fixups
+
+abbrev pub in_data : List Fixup → List Fixup
+in_data fixups = filter (is_of true) fixups
 
 unfoldable pub text_relocations : Program → List ℕ
-text_relocations p = flat_map relocation (filter is_code p.fixups)
+text_relocations p = flat_map relocation (in_text p.fixups)
 
 unfoldable pub data_relocations : Program → List ℕ
-data_relocations p = flat_map relocation (filter is_slot p.fixups)
+data_relocations p = flat_map relocation (in_data p.fixups)
 
 -- ---- names of sections
 
@@ -155,7 +156,7 @@ text_and_data p =
 -- symbols link to their strings and tell how many there are; relocations link to symbols and tell whose section they are
 abbrev pub tables : Program → List SectionRow
 tables p =
-    table_section (later_names p) 2 (symbols_at p) (length (symbol_table p)) (symbols_number p + 1) (length (symbol_entries p))
+    table_section (later_names p) 2 (symbols_at p) (length (symbol_table p)) (symbols_number p + 1) (1 + length p.funcs + length p.objects)
     ∷ strings_section (later_names p + 8) (names_at p) (length (names p))
     ∷ table_section (later_names p + 16) 4 (text_relocations_at p) (length (text_relocations p)) (symbols_number p) 1
     ∷ table_section (later_names p + 27) 4 (data_relocations_at p) (length (data_relocations p)) (symbols_number p) (if has_data p then 2 else 0)
@@ -176,18 +177,25 @@ header_of p = record {
 }
 
 -- the parts of the file after its header, each with its place
-unfoldable pub parts : Program → List (ℕ × List ℕ)
-parts p =
+
+unfoldable pub loaded_parts : Program → List (ℕ × List ℕ)
+loaded_parts p =
     (64, flat_map program_header (segments p))
     ∷ (0x1000, text_bytes p)
     ∷ (data_offset p, p.bytes)
-    ∷ (symbols_at p, symbol_table p)
+    ∷ []
+
+unfoldable pub table_parts : Program → List (ℕ × List ℕ)
+table_parts p =
+    (symbols_at p, symbol_table p)
     ∷ (names_at p, names p)
     ∷ (text_relocations_at p, text_relocations p)
     ∷ (data_relocations_at p, data_relocations p)
     ∷ (section_names_at p, section_names p)
-    ∷ (sections_at p, flat_map section_header (sections p))
     ∷ []
+
+abbrev pub parts : Program → List (ℕ × List ℕ)
+parts p = loaded_parts p ++ (table_parts p ++ (sections_at p, flat_map section_header (sections p)) ∷ [])
 
 unfoldable pub elf_of : Program → List ℕ
 elf_of p = laid (file_header (header_of p)) (parts p)

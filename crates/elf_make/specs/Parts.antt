@@ -1,6 +1,5 @@
 -- What a program is as an executable that is read.
 use Rattle.std.specs.Prelude.{ℕ, ◌+◌, ◌-◌, pos, List, [], ◌∷◌, ◌++◌, length, map, if◌then◌else◌}
-use Rattle.std.specs.List.{filter}
 use Rattle.elf_read.specs.declared.elf.Elf.{Elf}
 use Rattle.elf_read.specs.declared.elf.Section.{Section}
 use Rattle.elf_read.specs.declared.elf.Segment.{Segment}
@@ -11,7 +10,7 @@ use Rattle.rv_asm.specs.declared.program.Program.{Program}
 use Rattle.rv_asm.specs.declared.symbol.Fixup.{Fixup}
 use Rattle.rv_asm.specs.declared.symbol.Named.{Named}
 use Rattle.elf_make.specs.declared.rows.SectionRow.{SectionRow}
-use Rattle.elf_make.specs.File.{text_bytes, text_size, has_data, data_address, data_offset, sections, is_slot, is_code}
+use Rattle.elf_make.specs.File.{text_bytes, text_size, has_data, data_address, data_offset, sections, in_text, in_data}
 
 abbrev pub text_segment : Program → Segment
 text_segment p = record { flags = 5; offset = 0x1000; at = 0x10000; memsize = text_size p; bytes = text_bytes p }
@@ -41,5 +40,5 @@ elf_parts p = record {
   segments = text_segment p ∷ (if has_data p then data_segment p ∷ [] else []);
   sections = map section_of (sections p);
   symbols = null_symbol ∷ (map (symbol_of 2 1) p.funcs ++ map (symbol_of 1 2) p.objects);
-  relocs = map reloc_of (filter is_code p.fixups) ++ map reloc_of (filter is_slot p.fixups);
+  relocs = map reloc_of (in_text p.fixups) ++ map reloc_of (in_data p.fixups);
 }

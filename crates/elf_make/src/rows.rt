@@ -22,3 +22,20 @@ pub struct SectionRow {
     pub align: u64,
     pub entry_size: u64,
 }
+
+/// Where a part of the file stands, and its bytes.
+#[derive(Clone, Copy, Debug)]
+pub struct Place {
+    pub offset: u64,
+    pub size: u64,
+}
+
+/// Where the tables stand that aren't loaded.
+#[derive(Clone, Copy, Debug)]
+pub struct Places {
+    pub symbols: Place,
+    pub names: Place,
+    pub text_relocations: Place,
+    pub data_relocations: Place,
+    pub section_names: Place,
+}
