@@ -27,9 +27,9 @@ use Rattle.rv_asm.specs.Faults.{aim, address_of, jal_reaches, branch_reaches}
 
 -- ---- words of text
 
--- the word stands for it
+-- the word, of 32 bits, stands for it
 abbrev pub Stands : ℕ → Code → Type 0
-Stands word (Instruction i) = Reads word i
+Stands word (Instruction i) = (word < 2 ^ 32) × Reads word i
 Stands word (Raw w) = word ≡ w
 
 -- each word stands for the code in its place

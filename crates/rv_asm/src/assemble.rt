@@ -1,11 +1,12 @@
 //! A text, assembled.
 
-ghost use Rattle.std.specs.Prelude.{◌≡◌, ◌≢◌, ◌≤◌, ◌<◌, ◌+◌, ◌*◌, ◌^◌, [], length, None, Some, IfOk, IfErr, OnOk};
+ghost use Rattle.std.specs.Prelude.{◌≡◌, ◌≢◌, ◌≤◌, ◌<◌, ◌+◌, ◌*◌, ◌^◌, ℕ, List, [], length, None, Some, IfOk, IfErr, OnOk};
 ghost use Rattle.std.specs.List.{sum_by};
 ghost use Rattle.asm_text.specs.Statements.{statements, weight};
 ghost use Rattle.rv_asm.specs.State.{start, after};
 ghost use Rattle.rv_asm.specs.Emission.{data_start, round_up};
 ghost use Rattle.rv_asm.specs.Assembly.{all_names, fault_of, fault_in, IsGivenBy, IsProgramOf};
+ghost use Rattle.rv_asm.specs.declared.program.Program.{Program};
 ghost use Rattle.rv_asm.specs.declared.fault.AsmFault.TheVariants.{NoMemory as Full};
 
 use crate::emit::{bytes_of, entries_of, entry_or, fixups_of, funcs_of, objects_of, text_of};
@@ -62,6 +63,11 @@ fn program_of(
         fixups,
     })
 }
+
+/// Says that a text stands for one program at most. It does nothing.
+pub fn one_program()
+    ensures { (text : List ℕ) (p q : Program) → IsProgramOf text p → IsProgramOf text q → p ≡ q }
+{}
 
 /// The program that a text stands for, or its first fault.
 #[tactic(auto, unfolding(crate::specs::Assembly::fault_in, crate::specs::Assembly::fault_of, crate::specs::Assembly::all_names), using(crate::proofs::Walk::least_both, crate::proofs::Sizes::count_weight))]

@@ -1,0 +1,12 @@
+//! The call behind `ocolos_asm`: it assembles a text and writes the program's file.
+#![tactic(auto)]
+
+pub mod answer;
+pub mod call;
+pub mod decision;
+
+/// The most bytes of a text.
+pub const TEXT_LIMIT: usize = 67108864;
+
+#[cfg(test)]
+mod tests;
