@@ -1,0 +1,4 @@
+pub mod Services
+pub mod State
+pub mod Waiting
+pub mod Calls

@@ -1,0 +1,17 @@
+//! The system calls of a guest: what each reads, answers and leaves.
+//!
+//! `specs/Calls.antt` says what a call does as a value of what it reads, and what that value leaves. `syscall` does it.
+#![tactic(auto)]
+
+pub mod effect;
+pub mod service;
+pub mod state;
+
+/// The end of the addresses at which mappings are made, where the stack begins.
+pub const MAP_END: u64 = 0x0f80_0000;
+
+/// The most bytes of an output.
+pub const OUTPUT_LIMIT: usize = 16_777_216;
+
+/// The most harts that a run makes.
+pub const HART_LIMIT: u32 = 64;
