@@ -9,7 +9,9 @@ pub enum Reply {
     /// `x10` gets a number.
     Answer(u64),
     /// The hart waits at an address, and is answered 0 when it is woken.
-    Wait { addr: u64 },
+    Wait {
+        addr: u64,
+    },
     /// The hart ends.
     EndHart,
     /// The run ends with this code.
@@ -23,9 +25,13 @@ pub enum Reply {
         tid: u32,
     },
     /// The hart has another clear address, and is answered its tid.
-    SetClear { clear: u64 },
+    SetClear {
+        clear: u64,
+    },
     /// A register that the call reads holds a link.
-    LinkUse { reg: u8 },
+    LinkUse {
+        reg: u8,
+    },
     /// An output would have more than `OUTPUT_LIMIT` bytes.
     OutputFull,
     /// There are `HART_LIMIT` harts.

@@ -3,9 +3,18 @@
 //! `specs/Calls.antt` says what a call does as a value of what it reads, and what that value leaves. `syscall` does it.
 #![tactic(auto)]
 
+mod answers;
+mod arguments;
+pub mod call;
 pub mod effect;
+mod files;
+mod flags;
+mod mapping;
+mod ranges;
 pub mod service;
 pub mod state;
+mod threads;
+mod waiting;
 
 /// The end of the addresses at which mappings are made, where the stack begins.
 pub const MAP_END: u64 = 0x0f80_0000;

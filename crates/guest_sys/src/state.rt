@@ -190,6 +190,14 @@ impl Sys {
         self.made += 1;
     }
 
+    /// One more hart waits, behind all others.
+    pub fn push_waiting(&mut self, waiter: Waiter) -> Result<(), NoMemory>
+        ensures ok { OnOk result (self.new ≡ record self.old { waiting = self.old.waiting ++ waiter ∷ [] }) }
+        ensures err { OnErr result (self.new ≡ self.old) }
+    {
+        self.waiting.push(waiter)
+    }
+
     /// Other harts wait.
     pub fn set_waiting(&mut self, waiting: Items<Waiter>)
         ensures { self.new ≡ record self.old { waiting = waiting } }
