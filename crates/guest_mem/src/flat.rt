@@ -176,6 +176,11 @@ impl GuestStore for FlatMem {
         access::set_link(self, at, number);
     }
 
+    fn may_read(&self, at: u64, len: u64) -> bool {
+        WordStore::bounded(self);
+        access::all_have_right(self, Right::Read, at, len)
+    }
+
     fn may_write(&self, at: u64, len: u64) -> bool {
         WordStore::bounded(self);
         access::all_have_right(self, Right::Write, at, len)

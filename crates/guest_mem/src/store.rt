@@ -118,6 +118,11 @@ pub trait GuestStore {
         ensures contents { contents self.new ≡ with_link (contents self.old) at number }
         ensures room { KeepsRoom (room self.old) (room self.new) };
 
+    /// Whether each of the `len` bytes at `at` may be read. No byte from 0x10000000 on may be.
+    fn may_read(&self, at: u64, len: u64) -> bool
+        ensures value { result ≡ contains_all (contents self.now).readable at len }
+        ensures below { IsBelowEnd (contents self.now).readable };
+
     /// Whether each of the `len` bytes at `at` may be written. No byte from 0x10000000 on may be accessed.
     fn may_write(&self, at: u64, len: u64) -> bool
         ensures value { result ≡ contains_all (contents self.now).writable at len }

@@ -19,7 +19,10 @@ pub struct StdSource<R> {
 }
 
 impl<R: Read> StdSource<R> {
-    pub fn new(inner: R) -> Self {
+    /// A source that no error has met yet.
+    pub fn new(inner: R) -> Self
+        ensures { ⟦<StdSource<R> as Source>⟧.faults result ≡ 0 }
+    {
         StdSource { inner, faults: 0 }
     }
 }
@@ -48,7 +51,10 @@ pub struct StdSink<W> {
 }
 
 impl<W: Write> StdSink<W> {
-    pub fn new(inner: W) -> Self {
+    /// A sink that no error has met yet.
+    pub fn new(inner: W) -> Self
+        ensures { ⟦<StdSink<W> as Sink>⟧.faults result ≡ 0 }
+    {
         StdSink { inner, faults: 0 }
     }
 }
@@ -78,7 +84,11 @@ pub struct RealFiles<R> {
 }
 
 impl<R: rt::Files> RealFiles<R> {
-    pub fn new(runtime: R) -> Self {
+    /// Files that no error has met yet.
+    pub fn new(runtime: R) -> Self
+        ensures takes { ⟦<RealFiles<R> as Files>⟧.take_faults result ≡ 0 }
+        ensures puts { ⟦<RealFiles<R> as Files>⟧.put_faults result ≡ 0 }
+    {
         RealFiles {
             runtime,
             take_faults: 0,

@@ -1,0 +1,7 @@
+pub mod Services
+pub mod Errors
+pub mod State
+pub mod Waiting
+pub mod Fitting
+pub mod Words
+pub mod Calls
