@@ -1,0 +1,4 @@
+pub mod Cuts
+pub mod RoundTrip
+pub mod Steps
+pub mod Words

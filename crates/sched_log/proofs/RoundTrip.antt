@@ -1,0 +1,136 @@
+-- What is written of events is read again.
+use Rattle.std.proofs.Common.{rules, ◌≡◌, ℕ, ◌+◌, ◌^◌, ◌<◌, ◌≤◌, Bool, true, false, List, [], ◌∷◌, ◌++◌, length, map, Option, Some, None, refl, ap, sym, arith, eqb, append_assoc, ◌∙◌}
+use Rattle.std.specs.Prelude.{decimal, codes, sum_by, flat_map, ◌||◌}
+use Rattle.std.specs.List.{slice_split, All, AllByRecursion}
+use Rattle.std.specs.Option.{option_map, option_or}
+use Rattle.std.proofs.lemmas.Bool.{ne_eqb, le-leb, lt-ltb, le-ltb}
+use Rattle.std.proofs.lemmas.List.Splits.{slice_split_at, slice_split_none}
+use Rattle.std.proofs.lemmas.List.Elements.{All-append, All-cons, All-from_recursion}
+use Rattle.std.proofs.lemmas.List.Sums.{sum_by-cons}
+use Rattle.std.proofs.lemmas.Fmt.{decimal_nonempty}
+use Rattle.texts.specs.Texts.{lines_of, number_of}
+use Rattle.texts.proofs.Numbers.{decimal_read, not_in_decimal}
+use Rattle.texts.proofs.LinesBack.{IsOneLine, lines_back}
+use Rattle.sched_log.specs.Lines.{line_of, by_words, command, of_hart, turns}
+use Rattle.sched_log.specs.Script.{count, count_of, event_of, kind_of, fault_of, events_of, script}
+use Rattle.sched_log.specs.Printed.{spaced, line_text, terminated, printed, IsInRange, AreInRange, ReadsAs}
+use Rattle.sched_log.proofs.Steps.{faults_from, fault_start}
+use Rattle.sched_log.specs.declared.line.Line.{Line}
+use Rattle.sched_log.specs.declared.line.Line.TheVariants.{Does, End}
+use Rattle.sched_log.specs.declared.event.Event.{Event}
+use Rattle.sched_log.specs.declared.event.Event.TheVariants.{Steps, Real, Till}
+
+-- the words of a line
+two_words : (name : List ℕ) (n : ℕ) → All (λ b. eqb b 32 ≡ false) name → n < 2 ^ 64 → slice_split (λ b. eqb b 32) (spaced name (decimal n)) ≡ name ∷ decimal n ∷ []
+two_words name n whole small =
+    let last = slice_split_none (λ b. eqb b 32) (decimal n) (not_in_decimal 32 n (omega arith) small) in
+    slice_split_at (λ b. eqb b 32) name 32 (decimal n) whole refl ∙ ap (λ more. name ∷ more) last
+
+three_words : (name : List ℕ) (h n : ℕ) → All (λ b. eqb b 32 ≡ false) name → h < 2 ^ 64 → n < 2 ^ 64 → slice_split (λ b. eqb b 32) (spaced name (spaced (decimal h) (decimal n))) ≡ name ∷ decimal h ∷ decimal n ∷ []
+three_words name h n whole hs ns =
+    slice_split_at (λ b. eqb b 32) name 32 (spaced (decimal h) (decimal n)) whole refl ∙ ap (λ more. name ∷ more) (two_words (decimal h) n (not_in_decimal 32 h (omega arith) hs) ns)
+
+-- the names have neither a space nor a newline
+steps_without : (c : ℕ) → c < 33 → All (λ b. eqb b c ≡ false) (codes "steps")
+steps_without c low = All-from_recursion (λ b. eqb b c ≡ false) (codes "steps") (ne_eqb _ _ (λ e. omega (arith, e)), (ne_eqb _ _ (λ e. omega (arith, e)), (ne_eqb _ _ (λ e. omega (arith, e)), (ne_eqb _ _ (λ e. omega (arith, e)), (ne_eqb _ _ (λ e. omega (arith, e)), tt)))))
+
+real_without : (c : ℕ) → c < 33 → All (λ b. eqb b c ≡ false) (codes "real")
+real_without c low = All-from_recursion (λ b. eqb b c ≡ false) (codes "real") (ne_eqb _ _ (λ e. omega (arith, e)), (ne_eqb _ _ (λ e. omega (arith, e)), (ne_eqb _ _ (λ e. omega (arith, e)), (ne_eqb _ _ (λ e. omega (arith, e)), tt))))
+
+till_without : (c : ℕ) → c < 33 → All (λ b. eqb b c ≡ false) (codes "till")
+till_without c low = All-from_recursion (λ b. eqb b c ≡ false) (codes "till") (ne_eqb _ _ (λ e. omega (arith, e)), (ne_eqb _ _ (λ e. omega (arith, e)), (ne_eqb _ _ (λ e. omega (arith, e)), (ne_eqb _ _ (λ e. omega (arith, e)), tt))))
+
+end_one : IsOneLine (codes "end")
+end_one = All-from_recursion (λ b. eqb b 10 ≡ false) (codes "end") (refl, (refl, (refl, tt)))
+
+-- a number is no empty word
+some_digits : (n : ℕ) → n < 2 ^ 64 → eqb (length (decimal n)) 0 ≡ false
+some_digits n small = ne_eqb (length (decimal n)) 0 (λ e. omega (arith, e, decimal_nonempty n small))
+
+of_hart_read : (event : ℕ → ℕ → Event) (h n : ℕ) → h ≤ 63 → n < 2 ^ 32 → of_hart event (number_of (decimal h)) (number_of (decimal n)) ≡ Does (event h n)
+of_hart_read event h n le small = rw (decimal_read h (omega (arith, le)), decimal_read n small, le-leb h 63 le) refl
+
+steps_read : (hs ns : List ℕ) (line : Line) → eqb (length hs) 0 ≡ false → eqb (length ns) 0 ≡ false → of_hart Steps (number_of hs) (number_of ns) ≡ line → by_words (codes "steps" ∷ hs ∷ ns ∷ []) ≡ line
+unfolding command
+steps_read hs ns line some_h some_n is = rw (some_h, some_n) is
+
+real_read : (hs ns : List ℕ) (line : Line) → eqb (length hs) 0 ≡ false → eqb (length ns) 0 ≡ false → of_hart Real (number_of hs) (number_of ns) ≡ line → by_words (codes "real" ∷ hs ∷ ns ∷ []) ≡ line
+unfolding command
+real_read hs ns line some_h some_n is = rw (some_h, some_n) is
+
+till_read : (ns : List ℕ) (n : ℕ) → eqb (length ns) 0 ≡ false → number_of ns ≡ Some n → by_words (codes "till" ∷ ns ∷ []) ≡ Does (Till n)
+unfolding command
+till_read ns n some is = rw (some, is) refl
+
+-- a line that begins with a letter
+begun : (c : ℕ) (xs : List ℕ) (words : List (List ℕ)) (l : Line) → eqb c 35 ≡ false → slice_split (λ b. eqb b 32) (c ∷ xs) ≡ words → by_words words ≡ l → line_of (c ∷ xs) ≡ l
+unfolding line_of
+begun c xs words l other split is =
+    let some : eqb (length (c ∷ xs)) 0 ≡ false = ne_eqb _ 0 (λ e. omega (arith, e)) in
+    rw (some, other) (ap by_words split ∙ is)
+
+line_back : (e : Event) → IsInRange e → line_of (line_text e) ≡ Does e
+line_back (Steps h n) w = begun _ _ _ _ refl (three_words (codes "steps") h n (steps_without 32 (omega arith)) (omega (arith, w.0)) (omega (arith, w.1)))
+    (steps_read (decimal h) (decimal n) _ (some_digits h (omega (arith, w.0))) (some_digits n (omega (arith, w.1))) (of_hart_read Steps h n w.0 w.1))
+line_back (Real h n) w = begun _ _ _ _ refl (three_words (codes "real") h n (real_without 32 (omega arith)) (omega (arith, w.0)) (omega (arith, w.1)))
+    (real_read (decimal h) (decimal n) _ (some_digits h (omega (arith, w.0))) (some_digits n (omega (arith, w.1))) (of_hart_read Real h n w.0 w.1))
+line_back (Till n) w = begun _ _ _ _ refl (two_words (codes "till") n (till_without 32 (omega arith)) (omega (arith, w)))
+    (till_read (decimal n) n (some_digits n (omega (arith, w))) (decimal_read n w))
+
+-- each line is one line
+spaced_one : (first rest : List ℕ) → IsOneLine first → IsOneLine rest → IsOneLine (spaced first rest)
+spaced_one first rest f r = All-append (λ b. eqb b 10 ≡ false) first (32 ∷ rest) f (All-cons (λ b. eqb b 10 ≡ false) 32 rest refl r)
+
+one_line : (e : Event) → IsInRange e → IsOneLine (line_text e)
+one_line (Steps h n) w = spaced_one (codes "steps") (spaced (decimal h) (decimal n)) (steps_without 10 (omega arith)) (spaced_one (decimal h) (decimal n) (not_in_decimal 10 h (omega arith) (omega (arith, w.0))) (not_in_decimal 10 n (omega arith) (omega (arith, w.1))))
+one_line (Real h n) w = spaced_one (codes "real") (spaced (decimal h) (decimal n)) (real_without 10 (omega arith)) (spaced_one (decimal h) (decimal n) (not_in_decimal 10 h (omega arith) (omega (arith, w.0))) (not_in_decimal 10 n (omega arith) (omega (arith, w.1))))
+one_line (Till n) w = spaced_one (codes "till") (decimal n) (till_without 10 (omega arith)) (not_in_decimal 10 n (omega arith) (omega (arith, w)))
+
+lines_one : (es : List Event) → AllByRecursion IsInRange es → AllByRecursion IsOneLine (map line_text es ++ codes "end" ∷ [])
+lines_one [] h = (end_one, tt)
+lines_one (e ∷ es) h = (one_line e h.0, lines_one es h.1)
+
+printed_lines : (es : List Event) → printed es ≡ flat_map (λ l. l ++ 10 ∷ []) (map line_text es ++ codes "end" ∷ [])
+unfolding printed
+printed_lines [] = refl
+printed_lines (e ∷ es) = append_assoc (terminated (line_text e)) (flat_map (λ e. terminated (line_text e)) es) (terminated (codes "end")) ∙ ap (λ more. terminated (line_text e) ++ more) (printed_lines es)
+
+script_lines : (es : List Event) → AllByRecursion IsInRange es → map line_of (map line_text es ++ codes "end" ∷ []) ≡ map (λ e. Does e) es ++ End ∷ []
+unfolding line_of command
+script_lines [] h = refl
+script_lines (e ∷ es) h = rw (line_back e h.0, script_lines es h.1) refl
+
+script_back : (es : List Event) → AllByRecursion IsInRange es → script (printed es) ≡ map (λ e. Does e) es ++ End ∷ []
+unfolding script
+script_back es h = ap (λ t. map line_of (lines_of t)) (printed_lines es) ∙ ap (map line_of) (lines_back (map line_text es ++ codes "end" ∷ []) (lines_one es h)) ∙ script_lines es h
+
+events_in : (es : List Event) → flat_map event_of (map (λ e. Does e) es ++ End ∷ []) ≡ es
+events_in [] = refl
+events_in (e ∷ es) = ap (λ more. e ∷ more) (events_in es)
+
+fine_event : (sum : ℕ) (e : Event) → sum + count e ≤ 2000000000 → kind_of false (sum + count e) (Does e) ≡ None
+unfolding kind_of
+fine_event sum e le = rw (le-ltb 2000000000 (sum + count e) le) refl
+
+fine_end : (sum : ℕ) → sum ≤ 2000000000 → kind_of false (sum + 0) End ≡ None
+unfolding kind_of
+fine_end sum le = rw (le-ltb 2000000000 (sum + 0) (omega (arith, le))) refl
+
+none_in : (es : List Event) (n sum : ℕ) → sum + sum_by count es ≤ 2000000000 → faults_from n false sum (map (λ e. Does e) es ++ End ∷ []) ≡ None
+none_in [] n sum le = rw (fine_end sum (omega (arith, le))) refl
+none_in (e ∷ es) n sum le =
+    let s = sum_by-cons count e es in
+    rw (fine_event sum e (omega (arith, le, s))) (none_in es (n + 1) (sum + count e) (omega (arith, le, s)))
+
+events_back : (es : List Event) → AllByRecursion IsInRange es → events_of (printed es) ≡ es
+unfolding events_of
+events_back es h = ap (flat_map event_of) (script_back es h) ∙ events_in es
+
+-- what is written of events in range asks for them
+pub reads_back : (es : List Event) (text : List ℕ) → text ≡ printed es → AreInRange es → ReadsAs es text
+reads_back es text is w =
+    let lines : faults_from 1 false 0 (script (printed es)) ≡ None = ap (faults_from 1 false 0) (script_back es w.each) ∙ none_in es 1 0 (omega (arith, w.sum)) in
+    record {
+        fine = ap fault_of is ∙ sym (fault_start (printed es)) ∙ lines;
+        same = ap events_of is ∙ events_back es w.each;
+    }

@@ -1,0 +1,81 @@
+-- The first fault of a script, and its events.
+use Rattle.std.specs.Prelude.{ℕ, ◌+◌, Bool, true, false, not, ◌&&◌, nat_lt, List, [], ◌∷◌, ◌++◌, length, map, take, get_or, Option, Some, None, if◌then◌else◌, sum_by, flat_map}
+use Rattle.std.specs.List.{list_any, range_with_len}
+use Rattle.std.specs.Option.{option_map}
+use Rattle.texts.specs.Texts.{lines_of}
+use Rattle.sched_log.specs.Lines.{line_of}
+use Rattle.sched_log.specs.declared.fault.TheConstants.{NO_END, AFTER_END, PAST_LIMIT}
+use Rattle.sched_log.specs.declared.read.TheConstants.{COUNT_LIMIT}
+use Rattle.sched_log.specs.declared.event.Event.{Event}
+use Rattle.sched_log.specs.declared.event.Event.TheVariants.{Steps, Real, Till}
+use Rattle.sched_log.specs.declared.line.Line.{Line}
+use Rattle.sched_log.specs.declared.line.Line.TheVariants as line
+use Rattle.sched_log.specs.declared.fault.ScriptFault.{ScriptFault}
+use Rattle.sched_log.specs.declared.fault.ScriptFault.TheVariants as fault
+
+abbrev pub is_end : Line → Bool
+is_end line.End = true
+is_end _ = false
+
+abbrev pub is_command : Line → Bool
+is_command line.End = true
+is_command (line.Does e) = true
+is_command _ = false
+
+-- the n of an event
+abbrev pub count : Event → ℕ
+count (Steps h n) = n
+count (Real h n) = n
+count (Till n) = n
+
+abbrev pub event_of : Line → List Event
+event_of (line.Does e) = e ∷ []
+event_of _ = []
+
+abbrev pub count_of : Line → ℕ
+count_of (line.Does e) = count e
+count_of _ = 0
+
+-- the fault that a line has by itself
+abbrev pub own_fault : Line → Option ℕ
+own_fault (line.Wrong kind) = Some kind
+own_fault _ = None
+
+abbrev pub when : {X : Type 0} → Bool → X → Option X
+when b x = if b then Some x else None
+
+-- the first that is there
+abbrev pub first_of : {X : Type 0} → List (Option X) → Option X
+first_of [] = None
+first_of (None ∷ rest) = first_of rest
+first_of (Some x ∷ rest) = Some x
+
+-- the kind of a line's fault, where an end stands before it or not, and the counts up to it have this sum
+unfoldable pub kind_of : Bool → ℕ → Line → Option ℕ
+kind_of ended sum line = first_of (
+    own_fault line
+    ∷ when (ended && is_command line) AFTER_END
+    ∷ when (nat_lt COUNT_LIMIT sum) PAST_LIMIT
+    ∷ [])
+
+-- the fault of the line at place i, counted from 0
+abbrev pub fault_at : List Line → ℕ → Option ScriptFault
+fault_at lines i = option_map (λ kind. fault.Line (i + 1) kind)
+    (kind_of (list_any is_end (take i lines)) (sum_by count_of (take (i + 1) lines)) (get_or lines i line.Passed))
+
+-- the want of an end, which counts as a fault behind the last line
+abbrev pub no_end : List Line → Option ScriptFault
+no_end lines = when (not (list_any is_end lines)) (fault.Line (length lines + 1) NO_END)
+
+-- the first fault of lines
+abbrev pub fault_in : List Line → Option ScriptFault
+fault_in lines = first_of (map (fault_at lines) (range_with_len 0 (length lines)) ++ no_end lines ∷ [])
+
+unfoldable pub script : List ℕ → List Line
+script bytes = map line_of (lines_of bytes)
+
+unfoldable pub fault_of : List ℕ → Option ScriptFault
+fault_of bytes = fault_in (script bytes)
+
+unfoldable pub events_of : List ℕ → List Event
+events_of bytes = flat_map event_of (script bytes)

@@ -1,0 +1,10 @@
+/// What a script asks of a run. Harts are numbered 0 to 63.
+#[derive(Clone, Copy, Debug, PartialEq, Eq)]
+pub enum Event {
+    /// Hart `h` makes `n` steps.
+    Steps { h: u32, n: u64 },
+    /// Hart `h` steps until `n` real steps are done.
+    Real { h: u32, n: u64 },
+    /// `n` turns; in each the harts that are there at its start make one real step, in the order of their numbers.
+    Till { n: u64 },
+}

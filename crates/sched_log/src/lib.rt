@@ -1,0 +1,9 @@
+//! Scripts: what the harts of a run are asked to do, read from lines and written to them.
+#![tactic(auto)]
+
+pub mod event;
+pub mod fault;
+pub mod line;
+pub mod parts;
+pub mod read;
+pub mod write;
