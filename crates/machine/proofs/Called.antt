@@ -2,7 +2,6 @@
 use Rattle.std.proofs.Common.{◌≡◌, ℕ, refl, ◌∙◌}
 use Rattle.guest_mem.specs.Memory.{Memory}
 use Rattle.hart.specs.declared.hart.Hart.{Hart}
-use Rattle.hart.specs.declared.act.Acted.{Acted}
 use Rattle.hart.specs.declared.act.Acted.TheVariants as acted
 use Rattle.machine.specs.States.{State}
 use Rattle.hart.specs.Effects.{Effect, next, write, jump, call, trap, link_use, hart_after, memory_after, answer_of}

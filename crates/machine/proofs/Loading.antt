@@ -1,8 +1,8 @@
 -- What the parts of loading a program make together.
-use Rattle.std.proofs.Common.{◌≡◌, ℕ, zero, suc, ◌+◌, ◌-◌, ◌*◌, ◌/◌, ◌<◌, ◌≤◌, Bool, true, false, cond, nat_eq, List, length, get_or, refl, sym, ap, subst, ◌∙◌, arith}
+use Rattle.std.proofs.Common.{◌≡◌, ℕ, zero, suc, ◌+◌, ◌-◌, ◌*◌, ◌/◌, ◌≤◌, Bool, true, false, cond, nat_eq, List, length, get_or, refl, sym, ap, subst, ◌∙◌, arith}
 use Rattle.std.proofs.lemmas.Bool.{both_ways, eqb-true}
 use Rattle.finite.specs.Maps.{Places, contains, contains_all, mark, within}
-use Rattle.finite.proofs.MapLaws.{all-none, all-more, contains-mark, in_range, fill_word, mark_at, same_by_words, same_places}
+use Rattle.finite.proofs.MapLaws.{all-none, all-more, contains-mark, in_range, fill_word, same_by_words}
 use Rattle.image.specs.declared.ranges.Part.{Part}
 use Rattle.image.specs.declared.ranges.Aim.{Aim}
 use Rattle.image.specs.Picture.{IsPart}

@@ -1,5 +1,5 @@
 -- A run that has ended stays as it is.
-use Rattle.std.proofs.Common.{◌≡◌, ℕ, zero, suc, ◌+◌, true, Option, Some, None, ap, refl, ◌∙◌, arith, is_some}
+use Rattle.std.proofs.Common.{◌≡◌, ℕ, zero, suc, ◌+◌, true, ap, refl, ◌∙◌, arith, is_some}
 use Rattle.image.specs.Picture.{Picture}
 use Rattle.machine.specs.States.{State}
 use Rattle.machine.specs.Steps.{original_step, after_steps, step_with}

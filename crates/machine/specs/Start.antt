@@ -1,5 +1,5 @@
 -- The state before the first step. Source: this project for the address map; the System V ABI for the form of the words at x2.
-use Rattle.std.specs.Prelude.{ℕ, ◌+◌, ◌-◌, ◌/◌, true, false, List, [], ◌∷◌, length, get_or, replicate, None, codes, if◌then◌else◌}
+use Rattle.std.specs.Prelude.{ℕ, ◌+◌, ◌-◌, ◌/◌, true, List, [], ◌∷◌, length, get_or, replicate, None, codes}
 use Rattle.std.specs.List.{slice_set}
 use Rattle.finite.specs.Maps.{mark}
 use Rattle.image.specs.declared.ranges.Part.{Part}

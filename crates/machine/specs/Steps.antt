@@ -1,7 +1,7 @@
 -- A step of the machine, and runs. A step takes what is fetched at an address, and the original number of each link (origin,
 -- which also gives the original address of an instruction). In the original machine these are the words of the text, and each
 -- number itself. Source: the RISC-V Unprivileged ISA; this project for the causes of traps and their order, for links, for landings.
-use Rattle.std.specs.Prelude.{ℕ, zero, suc, ◌+◌, ◌%◌, Bool, true, false, not, ◌==◌, ◌&&◌, is_some, Option, Some, None, if◌then◌else◌}
+use Rattle.std.specs.Prelude.{ℕ, zero, suc, ◌%◌, Bool, true, false, not, ◌==◌, ◌&&◌, is_some, Option, Some, None, if◌then◌else◌}
 use Rattle.std.specs.List.{list_any}
 use Rattle.rv_isa.specs.Decoded.{decoded}
 use Rattle.rv_isa.specs.declared.instr.Instr.{Instr}
@@ -21,7 +21,7 @@ use Rattle.machine.specs.declared.outcome.Outcome.TheVariants.{Exit, Trap, LinkU
 use Rattle.machine.specs.declared.calls.Reply.{Reply}
 use Rattle.machine.specs.declared.calls.Reply.TheVariants as reply
 use Rattle.machine.specs.States.{State}
-use Rattle.machine.specs.Calls.{Called, called}
+use Rattle.machine.specs.Calls.{called}
 
 abbrev pub is_live : Status → Bool
 is_live Live = true

@@ -5,6 +5,7 @@ ghost use Rattle.hart.specs.Effects.{effect_of};
 ghost use Rattle.machine.specs.Calls.{held};
 ghost use Rattle.machine.specs.States.{State};
 ghost use Rattle.machine.specs.Start.{start_of};
+ghost use Rattle.machine.specs.Loaded.{IsLoaded};
 ghost use Rattle.machine.specs.Steps.{step_with, on_fetched, on_instr, is_live, by_answer, by_reply, after_call, after_effect, jumped_unless, fault_of_jump, answered, original_step, after_steps};
 
 use crate::calls::{Output, Outputs, Reply, syscall};
@@ -73,7 +74,8 @@ impl Machine {
     /// The machine before its first step.
     #[tactic(auto, unfolding(crate::specs::Start::start_of))]
     pub fn start(alloc: Global, image: &Image) -> Result<Machine, NoMemory>
-        ensures { IfOk result (λ m. m ≡ start_of image.now) }
+        ensures is { IfOk result (λ m. m ≡ start_of image.now) }
+        ensures loaded { IfOk result (λ m. IsLoaded image.now m.memory) }
     {
         Ok(Machine {
             alloc,

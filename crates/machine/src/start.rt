@@ -3,6 +3,7 @@ ghost use Rattle.std.specs.Prelude.{◌≡◌, ℕ, ◌+◌, ◌*◌, ◌/◌, �
 ghost use Rattle.finite.specs.Maps.{contains, contains_all};
 ghost use Rattle.image.specs.Picture.{IsPart};
 ghost use Rattle.guest_mem.specs.Memory.{Memory, with_word, word_of, bytes_of};
+ghost use Rattle.machine.specs.Loaded.{IsLoaded};
 ghost use Rattle.machine.specs.Start.{with_bytes, with_part, with_parts, with_slot, with_slots, with_words, first_words, with_stack, start_memory, start_hart};
 
 use crate::{NAME_AT, STACK_END, STACK_POINTER, STACK_START};
@@ -34,8 +35,16 @@ pub fn start_hart(image: &Image) -> Hart
 }
 
 /// The memory before the first step.
-#[tactic(auto, unfolding(crate::specs::Start::start_memory))]
 pub fn start_memory(alloc: Global, image: &Image) -> Result<FlatMem, NoMemory>
+    ensures is { IfOk result (λ m. m.contents ≡ start_memory image.now) }
+    ensures loaded { IfOk result (λ m. IsLoaded image.now m.contents) }
+{
+    image.kept();
+    memory_of(alloc, image)
+}
+
+#[tactic(auto, unfolding(crate::specs::Start::start_memory))]
+fn memory_of(alloc: Global, image: &Image) -> Result<FlatMem, NoMemory>
     ensures { IfOk result (λ m. m.contents ≡ start_memory image.now) }
 {
     image.kept();

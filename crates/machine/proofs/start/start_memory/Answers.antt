@@ -1,8 +1,8 @@
-use Rattle.std.proofs.Common.{ap, ◌∙◌}
-use Rattle.finite.specs.Maps.{contains}
-use Rattle.finite.proofs.MapLaws.{contains-nowhere}
-use Rattle.guest_mem.specs.Store.{Store}
+use Rattle.std.proofs.Common.{sym, subst}
+use Rattle.std.proofs.lemmas.Result.{IfOk-weaker}
+use Rattle.machine.specs.Loaded.{IsLoaded}
+use Rattle.machine.proofs.LoadedStack.{loaded}
 use Rattle.machine.proofs.start.start_memory.Goals as goal
 
-pub add_parts-requires-clause-plain : goal.add_parts-requires-clause-plain
-add_parts-requires-clause-plain c = λ w. ap (λ (s : Store). contains s.contents.links w) c.new-memory.ensures ∙ contains-nowhere w
+pub returns-clause-loaded : goal.returns-clause-loaded
+returns-clause-loaded c = IfOk-weaker c.memory_of.result _ _ (λ m is. subst (IsLoaded c.args.image.now) (sym is) (loaded c.args.image.now c.kept.ensures)) c.memory_of.ensures
