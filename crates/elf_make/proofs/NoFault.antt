@@ -1,11 +1,10 @@
 -- A program's file has no fault but that there may be no text.
-use Rattle.std.proofs.Common.{◌≡◌, ℕ, zero, suc, ◌+◌, ◌-◌, ◌*◌, ◌/◌, ◌^◌, ◌<◌, ◌≤◌, Bool, true, false, cond, not, List, [], ◌∷◌, ◌++◌, length, map, Option, Some, None, refl, sym, ap, subst, ◌∙◌, arith, length-append, get_or}
-use Rattle.std.specs.Prelude.{if◌then◌else◌, nat_lt, nat_le, ◌==◌, ◌&&◌, ◌||◌, bit_and, is_some, position}
-use Rattle.std.specs.List.{list_any, find, flat_map, filter, sum_by}
+use Rattle.std.proofs.Common.{◌≡◌, ℕ, ◌+◌, ◌*◌, ◌^◌, ◌<◌, ◌≤◌, Bool, true, false, not, List, [], ◌∷◌, length, Some, None, refl, ap, ◌∙◌, arith}
+use Rattle.std.specs.Prelude.{if◌then◌else◌, nat_lt, nat_le, ◌==◌, ◌&&◌, ◌||◌, is_some, position}
+use Rattle.std.specs.List.{list_any, find}
 use Rattle.std.specs.Option.{option_map}
 use Rattle.std.proofs.lemmas.Bool.Decides.{nat_tests}
 use Rattle.elf_read.specs.declared.header.Header.{Header}
-use Rattle.elf_read.specs.declared.fault.ElfFault.{ElfFault}
 use Rattle.elf_read.specs.declared.fault.ElfFault.TheVariants.{NoText, NoSymbols}
 use Rattle.elf_read.specs.declared.tables.ProgramHeader.{ProgramHeader}
 use Rattle.elf_read.specs.declared.tables.SectionHeader.{SectionHeader}
@@ -15,13 +14,12 @@ use Rattle.elf_read.specs.Header.{is_elf, is_riscv64_exec}
 use Rattle.elf_read.specs.Faults.{first_of, when, is_outside, is_loaded, is_text, is_symbols, is_bad, overlap, leaves_space, segment_start, section_start, is_segment_outside, is_section_outside, first_outside_segment, first_outside_section, first_bad_segment, is_too_large, program_headers, section_headers, fault_of}
 use Rattle.rv_asm.specs.declared.program.Program.{Program}
 use Rattle.elf_make.specs.declared.rows.FileHeader.{FileHeader}
-use Rattle.elf_make.specs.Rows.{program_header, section_header}
-use Rattle.elf_make.specs.File.{text_size, text_bytes, has_data, data_address, data_offset, segment, segments, sections, sections_at, header_of, elf_of}
+use Rattle.elf_make.specs.Rows.{section_header}
+use Rattle.elf_make.specs.File.{text_size, has_data, data_address, data_offset, segment, segments, sections, sections_at, header_of, elf_of}
 use Rattle.elf_make.proofs.Lengths.{headers_size, length-section_header, length-flat}
-use Rattle.elf_make.proofs.Holding.{Holds}
 use Rattle.elf_make.proofs.Reading.{Each, header_read, begins}
-use Rattle.elf_make.proofs.Standing.{Stands, stands, text_header, data_header, text_len}
-use Rattle.elf_make.proofs.Found.{Spots, rows_of, spots, found_text, has_text, text_sum, symbols_place}
+use Rattle.elf_make.proofs.Standing.{stands, text_header, data_header, text_len}
+use Rattle.elf_make.proofs.Found.{rows_of, spots, found_text, has_text, text_sum, symbols_place}
 use Rattle.elf_make.proofs.ReadTables.{Fits, each_maybe, head_read, segments_read, rows_read}
 
 -- the tests, one after another
@@ -140,13 +138,25 @@ sections_inside p =
     let st = stands p in
     let len = length (elf_of p) in
     let s = spots p in
-    ap (option_map section_start) (none_found (is_section_outside len) (rows_of (has_data p) s)
-    (refl, (refl, each_maybe (λ r. is_section_outside len r ≡ false) (has_data p) _ _ refl
-    (inside len s.symbols s.symbols_size st.symbols.within,
-    (inside len s.strings s.strings_size st.strings.within,
-    (inside len s.text_relocs s.text_relocs_size st.text_relocs.within,
-    (inside len s.data_relocs s.data_relocs_size st.data_relocs.within,
-    (inside len s.titles s.titles_size st.titles.within, record {}))))))))
+    ap (option_map section_start) (none_found (is_section_outside len) (rows_of (has_data p) s) (
+      refl,
+      (
+        refl,
+        each_maybe (λ r. is_section_outside len r ≡ false) (has_data p) _ _ refl (
+          inside len s.symbols s.symbols_size st.symbols.within,
+          (
+            inside len s.strings s.strings_size st.strings.within,
+            (
+              inside len s.text_relocs s.text_relocs_size st.text_relocs.within,
+              (
+                inside len s.data_relocs s.data_relocs_size st.data_relocs.within,
+                (inside len s.titles s.titles_size st.titles.within, record {}),
+              ),
+            ),
+          ),
+        ),
+      ),
+    ))
 
 fits_space : (p : Program) → Fits p → is_too_large (segments p) (rows_of (has_data p) (spots p)) ≡ false
 unfolding is_too_large

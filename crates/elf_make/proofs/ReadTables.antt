@@ -1,24 +1,19 @@
 -- The tables of a program's file, read back.
-use Rattle.std.proofs.Common.{◌≡◌, ℕ, zero, suc, ◌+◌, ◌-◌, ◌*◌, ◌/◌, ◌^◌, ◌<◌, ◌≤◌, Bool, true, false, List, [], ◌∷◌, ◌++◌, length, map, refl, sym, ap, subst, ◌∙◌, arith, length-append}
+use Rattle.std.proofs.Common.{◌≡◌, ℕ, ◌+◌, ◌-◌, ◌*◌, ◌/◌, ◌^◌, ◌<◌, ◌≤◌, Bool, true, false, List, [], ◌∷◌, ◌++◌, length, map, refl, subst, ◌∙◌, arith}
 use Rattle.std.specs.Prelude.{if◌then◌else◌}
-use Rattle.std.specs.List.{All, filter, flat_map, sum_by}
 use Rattle.std.proofs.lemmas.List.{map-id}
 use Rattle.elf_read.specs.declared.tables.ProgramHeader.{ProgramHeader}
-use Rattle.elf_read.specs.declared.tables.SectionHeader.{SectionHeader}
 use Rattle.elf_read.specs.Header as read_
 use Rattle.elf_read.specs.Faults.{program_headers, section_headers}
 use Rattle.elf_read.specs.Tables as read
-use Rattle.rv_asm.specs.Kept.{IsSound, symbol_size}
 use Rattle.rv_asm.specs.declared.program.Program.{Program}
-use Rattle.rv_asm.specs.declared.symbol.Fixup.{Fixup}
-use Rattle.elf_make.specs.declared.rows.SectionRow.{SectionRow}
 use Rattle.elf_make.specs.Rows.{program_header, section_header}
 use Rattle.elf_make.specs.File.{text_size, has_data, data_address, data_offset, segments, symbols_at, symbol_table, names_at, names, text_relocations_at, text_relocations, data_relocations_at, data_relocations, section_names_at, section_names, sections_at, no_section, loaded_section, strings_section, table_section, symbols_number, later_names, tables, sections, header_of, elf_of}
 use Rattle.elf_make.specs.Ranges.{IsProgramInRange}
 use Rattle.elf_make.proofs.Lengths.{length-program_header, length-section_header}
 use Rattle.elf_make.proofs.Holding.{Holds}
-use Rattle.elf_make.proofs.Reading.{FitsSegment, FitsSection, FitsHeader, Each, header_read, read_program_header, read_section_header, read_header, read_table}
-use Rattle.elf_make.proofs.Standing.{Stands, stands, text_header, data_header, few_segments, text_len}
+use Rattle.elf_make.proofs.Reading.{FitsSegment, FitsSection, Each, header_read, read_program_header, read_section_header, read_header, read_table}
+use Rattle.elf_make.proofs.Standing.{stands, text_header, data_header, few_segments}
 use Rattle.elf_make.proofs.Found.{rows_of, spots, header_part, rows_are}
 
 -- the program's numbers fit their types, and its file fits in memory
@@ -112,15 +107,26 @@ fits_sections p fits =
     let o = data_offset_small p fits in
     let n = number_small (has_data p) in
     let k = symbols_number p in
-    let l = later_names p in
-    (fits_null, (fits_loaded 1 6 0x10000 0x1000 (text_size p) 4 (omega arith) (omega arith) (omega arith) (omega arith),
-    each_maybe FitsSection (has_data p) (loaded_section 7 3 (data_address p) (data_offset p) (length p.bytes) 8) (tables p)
-    (fits_loaded 7 3 (data_address p) (data_offset p) (length p.bytes) 8 (omega arith) (omega arith) (omega arith) (omega arith))
-    (fits_table p fits (symbols_at p) (symbol_table p) st.symbols l 2 (k + 1) (1 + length p.funcs + length p.objects) (omega arith) n,
-    (fits_strings p fits (names_at p) (names p) st.strings (l + 8),
-    (fits_table p fits (text_relocations_at p) (text_relocations p) st.text_relocs (l + 16) 4 k 1 (omega arith) (omega arith),
-    (fits_table p fits (data_relocations_at p) (data_relocations p) st.data_relocs (l + 27) 4 k (if has_data p then 2 else 0) (omega arith) (omega arith),
-    (fits_strings p fits (section_names_at p) (section_names p) st.titles (l + 38), record {})))))))
+    let l = later_names p in (
+      fits_null,
+      (
+        fits_loaded 1 6 0x10000 0x1000 (text_size p) 4 (omega arith) (omega arith) (omega arith) (omega arith),
+        each_maybe FitsSection (has_data p) (loaded_section 7 3 (data_address p) (data_offset p) (length p.bytes) 8) (tables p)
+            (fits_loaded 7 3 (data_address p) (data_offset p) (length p.bytes) 8 (omega arith) (omega arith) (omega arith) (omega arith)) (
+              fits_table p fits (symbols_at p) (symbol_table p) st.symbols l 2 (k + 1) (1 + length p.funcs + length p.objects) (omega arith) n,
+              (
+                fits_strings p fits (names_at p) (names p) st.strings (l + 8),
+                (
+                  fits_table p fits (text_relocations_at p) (text_relocations p) st.text_relocs (l + 16) 4 k 1 (omega arith) (omega arith),
+                  (
+                    fits_table p fits (data_relocations_at p) (data_relocations p) st.data_relocs (l + 27) 4 k (if has_data p then 2 else 0) (omega arith) (omega arith),
+                    (fits_strings p fits (section_names_at p) (section_names p) st.titles (l + 38), record {}),
+                  ),
+                ),
+              ),
+            ),
+      ),
+    )
 
 pub sections_read : (p : Program) → Fits p → section_headers (elf_of p) ≡ map header_part (sections p)
 unfolding section_headers
