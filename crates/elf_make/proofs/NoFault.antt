@@ -97,9 +97,9 @@ unfolding first_bad_segment
 none_bad true t d x y = rw (x, y) refl
 none_bad false t d x y = rw x refl
 
-no_bad_segment : (p : Program) → Fits p → first_bad_segment (segments p) ≡ None
+no_bad_segment : (p : Program) → first_bad_segment (segments p) ≡ None
 unfolding segments
-no_bad_segment p fits =
+no_bad_segment p =
     let t = p.text_limit in
     let d = p.data_limit in
     none_bad (has_data p) (text_header p) (data_header p)
@@ -121,9 +121,9 @@ segments_inside p =
 in_space : (flags offset address size : ℕ) → 0x1000 ≤ address → address + size ≤ 0x08000000 → leaves_space (segment flags offset address size) ≡ false
 in_space flags offset address size low high = and_false (is_loaded (segment flags offset address size)) _ (rw (not_less address 0x1000 low, not_less 0x08000000 (address + size) high) refl)
 
-no_space_left : (p : Program) → Fits p → list_any leaves_space (segments p) ≡ false
+no_space_left : (p : Program) → list_any leaves_space (segments p) ≡ false
 unfolding segments
-no_space_left p fits =
+no_space_left p =
     let t = p.text_limit in
     let d = p.data_limit in
     any_of_two leaves_space (has_data p) (text_header p) (data_header p)
@@ -158,12 +158,12 @@ sections_inside p =
       ),
     ))
 
-fits_space : (p : Program) → Fits p → is_too_large (segments p) (rows_of (has_data p) (spots p)) ≡ false
+fits_space : (p : Program) → is_too_large (segments p) (rows_of (has_data p) (spots p)) ≡ false
 unfolding is_too_large
-fits_space p fits =
+fits_space p =
     let t = p.text_limit in
     let sum = text_sum (nat_lt 0 (text_size p)) (spots p) in
-    rw (no_space_left p fits, found_text (has_data p) (spots p)) (not_less 16777216 _ (omega arith))
+    rw (no_space_left p, found_text (has_data p) (spots p)) (not_less 16777216 _ (omega arith))
 
 -- ---- the whole
 
@@ -181,7 +181,7 @@ fault_left p fits =
     (elf_file p) (not_less len 64 (omega arith)) (exec (header_of p)) refl
     (inside len 64 (56 * length (segments p)) (omega arith))
     (inside len (sections_at p) (64 * length (sections p)) (omega arith))
-    (segments_inside p) (sections_inside p) (no_bad_segment p fits) (fits_space p fits)
+    (segments_inside p) (sections_inside p) (no_bad_segment p) (fits_space p)
     ∙ rw (has_text b s, symbols_place b s) refl
 
 pub no_fault : (p : Program) → Fits p → 0 < length p.text → fault_of (elf_of p) ≡ None

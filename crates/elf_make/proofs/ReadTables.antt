@@ -52,28 +52,28 @@ offset_small : (b : Bool) (n k : ℕ) → n ≤ k → (if b then (n + (4096 - 1)
 offset_small true n k h = omega arith
 offset_small false n k h = omega arith
 
-pub data_offset_small : (p : Program) → Fits p → data_offset p < 2 ^ 26
-data_offset_small p fits = let t = p.text_limit in let o = offset_small (has_data p) (0x1000 + text_size p) (0x1000 + 16777216) (omega arith) in omega arith
+pub data_offset_small : (p : Program) → data_offset p < 2 ^ 26
+data_offset_small p = let t = p.text_limit in let o = offset_small (has_data p) (0x1000 + text_size p) (0x1000 + 16777216) (omega arith) in omega arith
 
-fits_text : (p : Program) → Fits p → FitsSegment (text_header p)
-fits_text p fits = let t = p.text_limit in record { kind = omega arith; flags = omega arith; offset = omega arith; address = omega arith; file_size = omega arith; memory_size = omega arith }
+fits_text : (p : Program) → FitsSegment (text_header p)
+fits_text p = let t = p.text_limit in record { kind = omega arith; flags = omega arith; offset = omega arith; address = omega arith; file_size = omega arith; memory_size = omega arith }
 
-fits_data : (p : Program) → Fits p → FitsSegment (data_header p)
-fits_data p fits =
+fits_data : (p : Program) → FitsSegment (data_header p)
+fits_data p =
     let t = p.text_limit in
     let d = p.data_limit in
-    let o = data_offset_small p fits in
+    let o = data_offset_small p in
     record { kind = omega arith; flags = omega arith; offset = omega arith; address = omega arith; file_size = omega arith; memory_size = omega arith }
 
-fits_segments : (p : Program) → Fits p → Each FitsSegment (segments p)
+fits_segments : (p : Program) → Each FitsSegment (segments p)
 unfolding segments
-fits_segments p fits = (fits_text p fits, subst (Each FitsSegment) (maybe_nil (has_data p) (data_header p)) (each_maybe FitsSegment (has_data p) (data_header p) [] (fits_data p fits) (record {})))
+fits_segments p = (fits_text p, subst (Each FitsSegment) (maybe_nil (has_data p) (data_header p)) (each_maybe FitsSegment (has_data p) (data_header p) [] (fits_data p) (record {})))
 
 pub segments_read : (p : Program) → Fits p → program_headers (elf_of p) ≡ segments p
 unfolding program_headers
 segments_read p fits =
     rw (head_read p fits)
-    (read_table 56 read.program_header program_header (λ (h : ProgramHeader). h) FitsSegment (elf_of p) (read_program_header (elf_of p)) length-program_header 64 (segments p) (fits_segments p fits) (stands p).program_headers
+    (read_table 56 read.program_header program_header (λ (h : ProgramHeader). h) FitsSegment (elf_of p) (read_program_header (elf_of p)) length-program_header 64 (segments p) (fits_segments p) (stands p).program_headers
     ∙ map-id (segments p))
 
 fits_table : (p : Program) → Fits p → (at : ℕ) (part : List ℕ) → Holds (elf_of p) at part → (name kind link info : ℕ) → kind < 5 → link < 5 → FitsSection (table_section name kind at (length part) link info)
@@ -104,7 +104,7 @@ fits_sections p fits =
     let st = stands p in
     let t = p.text_limit in
     let d = p.data_limit in
-    let o = data_offset_small p fits in
+    let o = data_offset_small p in
     let n = number_small (has_data p) in
     let k = symbols_number p in
     let l = later_names p in (
