@@ -3,3 +3,4 @@ pub mod Jumps
 pub mod Picture
 pub mod Targets
 pub mod Texts
+pub mod Tops

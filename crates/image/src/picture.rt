@@ -6,7 +6,7 @@ ghost use Rattle.image.specs.Texts.{covers, word_at};
 ghost use Rattle.image.specs.Aims.{is_inside, aim_place};
 ghost use Rattle.image.specs.Picture.{Picture, IsKept, is_second};
 
-use crate::funcs::func_at;
+use crate::funcs::FuncIndex;
 use crate::ranges::{Aim, Func, Part, TextRange};
 use crate::texts::{text_at, word_at};
 use finite::search::place_of;
@@ -23,7 +23,7 @@ pub struct Image {
     parts: Items<Part>,
     entry: u64,
     region: Range,
-    funcs: Items<Func>,
+    funcs: FuncIndex,
     sites: Items<Aim>,
     pairs: Items<Aim>,
     slots: Items<Aim>,
@@ -61,8 +61,9 @@ impl Model for Image {
 }
 
 impl Image {
-    /// An image of these parts. It takes no memory.
+    /// An image of these parts.
     pub fn of(
+        alloc: Global,
         texts: Vec<TextRange>,
         parts: Vec<Part>,
         entry: u64,
@@ -72,7 +73,7 @@ impl Image {
         pairs: Vec<Aim>,
         slots: Vec<Aim>,
         headers: (u64, u64),
-    ) -> Image
+    ) -> Result<Image, NoMemory>
         requires { IsKept (record {
           texts = texts.items;
           parts = parts.items;
@@ -84,7 +85,7 @@ impl Image {
           slots = slots.items;
           headers = headers;
         }) }
-        ensures { result ≡ record {
+        ensures { IfOk result (λ i. i ≡ record {
           texts = texts.items;
           parts = parts.items;
           entry = entry;
@@ -94,19 +95,19 @@ impl Image {
           pairs = pairs.items;
           slots = slots.items;
           headers = headers;
-        } }
+        }) }
     {
-        Image {
+        Ok(Image {
             texts: Items::from_vec(texts),
             parts: Items::from_vec(parts),
             entry,
             region,
-            funcs: Items::from_vec(funcs),
+            funcs: FuncIndex::of(alloc, funcs)?,
             sites: Items::from_vec(sites),
             pairs: Items::from_vec(pairs),
             slots: Items::from_vec(slots),
             headers,
-        }
+        })
     }
 
     /// An equal image.
@@ -120,7 +121,7 @@ impl Image {
             parts: Items::from_vec(parts),
             entry: self.entry,
             region: self.region,
-            funcs: Items::from_slice(alloc, self.funcs.as_slice())?,
+            funcs: self.funcs.copy(alloc)?,
             sites: Items::from_slice(alloc, self.sites.as_slice())?,
             pairs: Items::from_slice(alloc, self.pairs.as_slice())?,
             slots: Items::from_slice(alloc, self.slots.as_slice())?,
@@ -213,7 +214,7 @@ impl Image {
     pub fn func_at(&self, at: u64) -> Option<u32>
         ensures { result ≡ position (is_inside at) self.now.funcs }
     {
-        func_at(self.funcs.as_slice(), at)
+        self.funcs.func_at(at)
     }
 
     /// Whether an address is that of the second word of a pair.
