@@ -278,10 +278,14 @@ abbrev pub all_changed : (ℕ → ℕ) → Memory → List Change → Memory
 all_changed origin m [] = m
 all_changed origin m (c ∷ cs) = all_changed origin (changed origin m c) cs
 
--- the bytes that a call wrote
+-- the range of n bytes at an address, where there are some
+abbrev pub span : ℕ → ℕ → List Range
+span at n = if n == 0 then [] else (record { from = at; to = at + n }) ∷ []
+
+-- the ranges of bytes that a call wrote
 abbrev pub ranges : List Change → List Range
 ranges [] = []
-ranges (put_at at bytes ∷ cs) = (record { from = at; to = at + length bytes }) ∷ ranges cs
+ranges (put_at at bytes ∷ cs) = span at (length bytes) ++ ranges cs
 ranges (map_zero from to read write ∷ cs) = ranges cs
 ranges (give_rights from to read write ∷ cs) = ranges cs
 

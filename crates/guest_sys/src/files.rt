@@ -9,7 +9,7 @@ ghost use Rattle.guest_sys.specs.Fitting.{fitting};
 use crate::OUTPUT_LIMIT;
 use crate::answers::{Error, answer, failure, plain};
 use crate::effect::{Effect, Reply};
-use crate::ranges::{one, put, readable, writable};
+use crate::ranges::{put, readable, span, writable};
 use crate::state::Sys;
 use guest_mem::store::GuestStore;
 use link_tags::origins::Origins;
@@ -34,10 +34,10 @@ pub fn read<M: GuestStore, O: Origins>(
         return Ok(failure(alloc, Error::BadFile));
     }
     let count = count.min(sys.input().len() as u64);
-    let Some(range) = writable(mem, at, count) else {
+    if !writable(mem, at, count) {
         return Ok(failure(alloc, Error::BadAddress));
-    };
-    let written = one(alloc, range)?;
+    }
+    let written = span(alloc, at, count)?;
     put(mem, origins, at, &sys.input()[..count as usize])?;
     sys.go_on(count as usize);
     Ok(Effect {
@@ -85,10 +85,10 @@ pub fn writev<M: GuestStore, O: Origins>(
     if count > 1024 {
         return Ok(failure(alloc, Error::Invalid));
     }
-    let Some(table) = readable(mem, at, 16 * count) else {
+    if !readable(mem, at, 16 * count) {
         return Ok(failure(alloc, Error::BadAddress));
-    };
-    let parts = parts(alloc, mem, origins, table.from, count)?;
+    }
+    let parts = parts(alloc, mem, origins, at, count)?;
     write_parts(alloc, sys, mem, origins, file, &parts)
 }
 

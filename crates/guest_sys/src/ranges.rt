@@ -1,8 +1,8 @@
 //! Ranges of bytes with a right.
-ghost use Rattle.std.specs.Prelude.{◌≡◌, ◌+◌, [], ◌∷◌, true, length, IfOk, OnOk, OnErr, Some, None, if◌then◌else◌};
+ghost use Rattle.std.specs.Prelude.{◌≡◌, ◌+◌, ◌<◌, ◌^◌, true, length, IfOk, OnOk, OnErr};
 ghost use Rattle.finite.specs.Maps.{contains_all};
 ghost use Rattle.guest_mem.specs.Access.{KeepsRoom};
-ghost use Rattle.guest_sys.specs.Calls.{changed, put_at};
+ghost use Rattle.guest_sys.specs.Calls.{changed, put_at, span};
 
 use guest_mem::store::GuestStore;
 use link_tags::origins::Origins;
@@ -11,40 +11,36 @@ use oc_base::items::Items;
 use oc_base::range::Range;
 use std::alloc::Global;
 
-/// The `len` bytes at `at`, where all of them may be read.
+/// Whether the `len` bytes at `at` may be read, which then fit.
 #[tactic(auto, using(crate::proofs::RangeLaws::end_fits))]
-pub fn readable<M: GuestStore>(mem: &M, at: u64, len: u64) -> Option<Range>
-    ensures { result ≡ (if contains_all (M.contents mem.now).readable at len then Some (record { from = at; to = at + len }) else None) }
+pub fn readable<M: GuestStore>(mem: &M, at: u64, len: u64) -> bool
+    ensures value { result ≡ contains_all (M.contents mem.now).readable at len }
+    ensures fits { result ≡ true → at + len < 2 ^ 64 }
 {
-    if !mem.may_read(at, len) {
-        return None;
-    }
-    Some(Range {
-        from: at,
-        to: at + len,
-    })
+    mem.may_read(at, len)
 }
 
-/// The `len` bytes at `at`, where all of them may be written.
+/// Whether the `len` bytes at `at` may be written, which then fit.
 #[tactic(auto, using(crate::proofs::RangeLaws::end_fits))]
-pub fn writable<M: GuestStore>(mem: &M, at: u64, len: u64) -> Option<Range>
-    ensures { result ≡ (if contains_all (M.contents mem.now).writable at len then Some (record { from = at; to = at + len }) else None) }
+pub fn writable<M: GuestStore>(mem: &M, at: u64, len: u64) -> bool
+    ensures value { result ≡ contains_all (M.contents mem.now).writable at len }
+    ensures fits { result ≡ true → at + len < 2 ^ 64 }
 {
-    if !mem.may_write(at, len) {
-        return None;
-    }
-    Some(Range {
-        from: at,
-        to: at + len,
-    })
+    mem.may_write(at, len)
 }
 
-/// A list of one range.
-pub fn one(alloc: Global, range: Range) -> Result<Items<Range>, NoMemory>
-    ensures { IfOk result (λ list. list ≡ range ∷ []) }
+/// The range of `len` bytes at `at`, which fits, where there are some.
+pub fn span(alloc: Global, at: u64, len: u64) -> Result<Items<Range>, NoMemory>
+    requires { at + len < 2 ^ 64 }
+    ensures { IfOk result (λ list. list ≡ span at len) }
 {
     let mut list = Items::new(alloc);
-    list.push(range)?;
+    if len != 0 {
+        list.push(Range {
+            from: at,
+            to: at + len,
+        })?;
+    }
     Ok(list)
 }
 

@@ -142,7 +142,7 @@ impl Sys {
 
     /// The first `count` bytes of the input were read.
     #[tactic(auto, using(crate::proofs::Input::rest_within, crate::proofs::Input::drop_rest))]
-    pub fn go_on(&mut self, count: usize)
+    pub(crate) fn go_on(&mut self, count: usize)
         requires { count ≤ length self.old.input }
         ensures { self.new ≡ record self.old { input = drop count self.old.input } }
     {
@@ -151,7 +151,7 @@ impl Sys {
     }
 
     /// Adds bytes to output 1 or 2.
-    pub fn append(&mut self, k: u64, bytes: &[u8]) -> Result<(), NoMemory>
+    pub(crate) fn append(&mut self, k: u64, bytes: &[u8]) -> Result<(), NoMemory>
         requires { length (output self.old k) + length bytes.now ≤ OUTPUT_LIMIT }
         ensures ok { OnOk result (self.new ≡ added self.old k bytes.now) }
         ensures err { OnErr result (self.new ≡ self.old) }
@@ -164,7 +164,7 @@ impl Sys {
     }
 
     /// Moves the break.
-    pub fn set_break(&mut self, to: u64)
+    pub(crate) fn set_break(&mut self, to: u64)
         requires start { self.old.break_start ≤ to }
         requires top { pages to ≤ self.old.map_top }
         ensures { self.new ≡ record self.old { break_now = to } }
@@ -173,7 +173,7 @@ impl Sys {
     }
 
     /// Moves the begin of the mappings.
-    pub fn set_map_top(&mut self, to: u64)
+    pub(crate) fn set_map_top(&mut self, to: u64)
         requires whole { to % 4096 ≡ 0 }
         requires low { pages self.old.break_now ≤ to }
         requires high { to ≤ MAP_END }
@@ -183,7 +183,7 @@ impl Sys {
     }
 
     /// One more hart is made.
-    pub fn count_hart(&mut self)
+    pub(crate) fn count_hart(&mut self)
         requires { self.old.made < HART_LIMIT }
         ensures { self.new ≡ record self.old { made = self.old.made + 1 } }
     {
@@ -191,7 +191,7 @@ impl Sys {
     }
 
     /// One more hart waits, behind all others.
-    pub fn push_waiting(&mut self, waiter: Waiter) -> Result<(), NoMemory>
+    pub(crate) fn push_waiting(&mut self, waiter: Waiter) -> Result<(), NoMemory>
         ensures ok { OnOk result (self.new ≡ record self.old { waiting = self.old.waiting ++ waiter ∷ [] }) }
         ensures err { OnErr result (self.new ≡ self.old) }
     {
@@ -199,7 +199,7 @@ impl Sys {
     }
 
     /// Other harts wait.
-    pub fn set_waiting(&mut self, waiting: Items<Waiter>)
+    pub(crate) fn set_waiting(&mut self, waiting: Items<Waiter>)
         ensures { self.new ≡ record self.old { waiting = waiting } }
     {
         self.waiting = waiting;

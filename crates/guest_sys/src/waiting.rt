@@ -7,7 +7,7 @@ ghost use Rattle.guest_sys.specs.Calls.{Does, Rests, wait, wake, requeue, futex_
 use crate::answers::{Error, failure, plain};
 use crate::arguments::Arguments;
 use crate::effect::{Effect, Reply};
-use crate::ranges::{one, put, writable};
+use crate::ranges::{put, span, writable};
 use crate::service::{Operation, operation_of};
 use crate::state::{Sys, Waiter};
 use guest_mem::store::GuestStore;
@@ -175,12 +175,12 @@ pub fn exit<M: GuestStore, O: Origins>(
     if clear == 0 || clear % 4 != 0 {
         return Ok(plain(alloc, Reply::EndHart));
     }
-    let Some(word) = writable(mem, clear, 4) else {
+    if !writable(mem, clear, 4) {
         return Ok(plain(alloc, Reply::EndHart));
-    };
+    }
     let Parted { first, others } = split(alloc, sys.waiting(), clear, 1)?;
     let woken = harts(alloc, first.as_slice())?;
-    let written = one(alloc, word)?;
+    let written = span(alloc, clear, 4)?;
     put(mem, origins, clear, &[0; 4])?;
     sys.set_waiting(others);
     Ok(Effect {
