@@ -4,6 +4,8 @@
 pub mod event;
 pub mod fault;
 pub mod line;
-pub mod parts;
+mod parts;
 pub mod read;
+#[cfg(test)]
+mod tests;
 pub mod write;
