@@ -1,12 +1,12 @@
 -- The section headers of a program's file, and what is looked up among them.
-use Rattle.std.proofs.Common.{◌≡◌, ℕ, zero, suc, ◌+◌, ◌-◌, ◌*◌, ◌/◌, ◌^◌, ◌<◌, ◌≤◌, Bool, true, false, List, [], ◌∷◌, ◌++◌, length, map, Option, Some, None, refl, sym, ap, subst, ◌∙◌, arith}
+use Rattle.std.proofs.Common.{◌≡◌, ℕ, ◌+◌, ◌≤◌, Bool, true, false, List, [], ◌∷◌, ◌++◌, length, map, Some, refl, ap, arith}
 use Rattle.std.specs.Prelude.{nat_lt, if◌then◌else◌, ◌==◌, ◌&&◌, ◌||◌}
 use Rattle.std.specs.List.{filter, find, position, list_any, sum_by, slice_get, position_or_len}
 use Rattle.elf_read.specs.declared.tables.SectionHeader.{SectionHeader}
 use Rattle.elf_read.specs.Faults.{is_text, is_symbols}
 use Rattle.rv_asm.specs.declared.program.Program.{Program}
 use Rattle.elf_make.specs.declared.rows.SectionRow.{SectionRow}
-use Rattle.elf_make.specs.File.{text_size, has_data, data_address, data_offset, symbol_table, names, text_relocations, data_relocations, section_names, symbols_at, names_at, text_relocations_at, data_relocations_at, section_names_at, loaded_section, text_and_data, tables, sections}
+use Rattle.elf_make.specs.File.{text_size, has_data, data_address, data_offset, symbol_table, names, text_relocations, data_relocations, section_names, symbols_at, names_at, text_relocations_at, data_relocations_at, section_names_at, loaded_section, tables, sections}
 
 -- the numbers that the section headers hold
 pub record Spots : Type 0 where

@@ -1,5 +1,5 @@
 -- Lengths of entries and tables.
-use Rattle.std.proofs.Common.{◌≡◌, ℕ, zero, suc, ◌+◌, ◌-◌, ◌*◌, ◌^◌, ◌<◌, ◌≤◌, List, [], ◌∷◌, ◌++◌, length, refl, ap, ◌∙◌, arith, length-append}
+use Rattle.std.proofs.Common.{◌≡◌, ℕ, ◌+◌, ◌*◌, ◌≤◌, List, [], ◌∷◌, length, refl, arith, length-append}
 use Rattle.std.specs.List.{flat_map, sum_by}
 use Rattle.std.proofs.lemmas.Grind.{common_steps}
 use Rattle.byteorder.specs.Numbers.{length-bytes_low_first}
@@ -13,7 +13,6 @@ use Rattle.elf_make.specs.declared.rows.FileHeader.{FileHeader}
 use Rattle.elf_make.specs.declared.rows.SectionRow.{SectionRow}
 use Rattle.elf_make.specs.Bytes.{number, fields}
 use Rattle.elf_make.specs.Rows.{header_fields, segment_fields, section_fields, symbol_fields, relocation_fields, file_header, program_header, section_header, symbol_entry, relocation}
-use Rattle.elf_make.specs.File.{segments, text_bytes}
 
 pub length-number : (size value : ℕ) → length (number size value) ≡ size
 unfolding number

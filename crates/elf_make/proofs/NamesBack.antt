@@ -1,13 +1,12 @@
 -- Symbols and their names, read back.
-use Rattle.std.proofs.Common.{◌≡◌, ℕ, zero, suc, ◌+◌, ◌-◌, ◌*◌, ◌/◌, ◌^◌, ◌<◌, ◌≤◌, Bool, true, false, cond, not, List, [], ◌∷◌, ◌++◌, length, map, take, drop, refl, sym, ap, subst, ◌∙◌, arith, length-append, append_assoc}
+use Rattle.std.proofs.Common.{◌≡◌, ℕ, suc, ◌+◌, ◌*◌, ◌/◌, ◌^◌, ◌<◌, true, false, List, [], ◌∷◌, ◌++◌, length, map, take, refl, sym, ap, ◌∙◌, arith, length-append, append_assoc}
 use Rattle.std.specs.Prelude.{◌==◌, nat_lt}
-use Rattle.std.specs.List.{flat_map, sum_by, before_first, position_or_len, list_all}
+use Rattle.std.specs.List.{flat_map, sum_by, before_first, position_or_len}
 use Rattle.std.proofs.lemmas.Bool.{and_parts}
 use Rattle.std.proofs.lemmas.Bool.Decides.{nat_tests}
 use Rattle.std.proofs.lemmas.Grind.{flat_map-append}
 use Rattle.std.proofs.lemmas.List.{append-nil, map-append, map-id}
 use Rattle.std.proofs.lemmas.List.Sums.{sum_by-cons}
-use Rattle.elf_read.specs.declared.elf.Symbol.{Symbol}
 use Rattle.elf_read.specs.declared.tables.SymbolEntry.{SymbolEntry}
 use Rattle.elf_read.specs.Parts.{name_at, symbol}
 use Rattle.elf_read.specs.Tables as read
@@ -22,7 +21,7 @@ use Rattle.elf_make.specs.Ranges.{IsInRange}
 use Rattle.elf_make.proofs.Lengths.{length-flat, length-symbol_entry}
 use Rattle.elf_make.proofs.Holding.{Holds, held_first, held_next}
 use Rattle.elf_make.proofs.Reading.{FitsSymbol, Each, each_of, read_symbol, read_table}
-use Rattle.elf_make.proofs.Standing.{Stands, stands}
+use Rattle.elf_make.proofs.Standing.{stands}
 use Rattle.elf_make.proofs.ReadTables.{Fits}
 
 -- ---- names
@@ -111,11 +110,12 @@ fits_entries : (p : Program) → Fits p → Each FitsSymbol (symbol_entries p)
 unfolding symbol_entries
 fits_entries p fits =
     let short = p.short_names in
-    let next = 1 + sum_by symbol_size p.funcs in
-    (record { name = omega arith; info = omega arith; section = omega arith; value = omega arith; size = omega arith },
-    each_append FitsSymbol (symbols_of 2 1 1 p.funcs) (symbols_of 1 2 next p.objects)
-    (fits_symbols 2 1 1 p.funcs (omega arith) (omega arith) (omega arith) (each_of IsInRange p.funcs fits.ranges.funcs))
-    (fits_symbols 1 2 next p.objects (omega arith) (omega arith) (omega arith) (each_of IsInRange p.objects fits.ranges.objects)))
+    let next = 1 + sum_by symbol_size p.funcs in (
+      record { name = omega arith; info = omega arith; section = omega arith; value = omega arith; size = omega arith },
+      each_append FitsSymbol (symbols_of 2 1 1 p.funcs) (symbols_of 1 2 next p.objects)
+          (fits_symbols 2 1 1 p.funcs (omega arith) (omega arith) (omega arith) (each_of IsInRange p.funcs fits.ranges.funcs))
+          (fits_symbols 1 2 next p.objects (omega arith) (omega arith) (omega arith) (each_of IsInRange p.objects fits.ranges.objects)),
+    )
 
 pub times_24 : (k n : ℕ) → n ≡ 24 * k → n / 24 ≡ k
 times_24 k n h = omega arith

@@ -1,11 +1,10 @@
 -- A program's file has no fault but that there may be no text.
-use Rattle.std.proofs.Common.{◌≡◌, ℕ, zero, suc, ◌+◌, ◌-◌, ◌*◌, ◌/◌, ◌^◌, ◌<◌, ◌≤◌, Bool, true, false, cond, not, List, [], ◌∷◌, ◌++◌, length, map, Option, Some, None, refl, sym, ap, subst, ◌∙◌, arith, length-append, get_or}
-use Rattle.std.specs.Prelude.{if◌then◌else◌, nat_lt, nat_le, ◌==◌, ◌&&◌, ◌||◌, bit_and, is_some, position}
-use Rattle.std.specs.List.{list_any, find, flat_map, filter, sum_by}
+use Rattle.std.proofs.Common.{◌≡◌, ℕ, ◌+◌, ◌*◌, ◌^◌, ◌<◌, ◌≤◌, Bool, true, false, not, List, [], ◌∷◌, length, Some, None, refl, ap, ◌∙◌, arith}
+use Rattle.std.specs.Prelude.{if◌then◌else◌, nat_lt, nat_le, ◌==◌, ◌&&◌, ◌||◌, is_some, position}
+use Rattle.std.specs.List.{list_any, find}
 use Rattle.std.specs.Option.{option_map}
 use Rattle.std.proofs.lemmas.Bool.Decides.{nat_tests}
 use Rattle.elf_read.specs.declared.header.Header.{Header}
-use Rattle.elf_read.specs.declared.fault.ElfFault.{ElfFault}
 use Rattle.elf_read.specs.declared.fault.ElfFault.TheVariants.{NoText, NoSymbols}
 use Rattle.elf_read.specs.declared.tables.ProgramHeader.{ProgramHeader}
 use Rattle.elf_read.specs.declared.tables.SectionHeader.{SectionHeader}
@@ -15,13 +14,12 @@ use Rattle.elf_read.specs.Header.{is_elf, is_riscv64_exec}
 use Rattle.elf_read.specs.Faults.{first_of, when, is_outside, is_loaded, is_text, is_symbols, is_bad, overlap, leaves_space, segment_start, section_start, is_segment_outside, is_section_outside, first_outside_segment, first_outside_section, first_bad_segment, is_too_large, program_headers, section_headers, fault_of}
 use Rattle.rv_asm.specs.declared.program.Program.{Program}
 use Rattle.elf_make.specs.declared.rows.FileHeader.{FileHeader}
-use Rattle.elf_make.specs.Rows.{program_header, section_header}
-use Rattle.elf_make.specs.File.{text_size, text_bytes, has_data, data_address, data_offset, segment, segments, sections, sections_at, header_of, elf_of}
+use Rattle.elf_make.specs.Rows.{section_header}
+use Rattle.elf_make.specs.File.{text_size, has_data, data_address, data_offset, segment, segments, sections, sections_at, header_of, elf_of}
 use Rattle.elf_make.proofs.Lengths.{headers_size, length-section_header, length-flat}
-use Rattle.elf_make.proofs.Holding.{Holds}
 use Rattle.elf_make.proofs.Reading.{Each, header_read, begins}
-use Rattle.elf_make.proofs.Standing.{Stands, stands, text_header, data_header, text_len}
-use Rattle.elf_make.proofs.Found.{Spots, rows_of, spots, found_text, has_text, text_sum, symbols_place}
+use Rattle.elf_make.proofs.Standing.{stands, text_header, data_header, text_len}
+use Rattle.elf_make.proofs.Found.{rows_of, spots, found_text, has_text, text_sum, symbols_place}
 use Rattle.elf_make.proofs.ReadTables.{Fits, each_maybe, head_read, segments_read, rows_read}
 
 -- the tests, one after another
@@ -99,9 +97,9 @@ unfolding first_bad_segment
 none_bad true t d x y = rw (x, y) refl
 none_bad false t d x y = rw x refl
 
-no_bad_segment : (p : Program) → Fits p → first_bad_segment (segments p) ≡ None
+no_bad_segment : (p : Program) → first_bad_segment (segments p) ≡ None
 unfolding segments
-no_bad_segment p fits =
+no_bad_segment p =
     let t = p.text_limit in
     let d = p.data_limit in
     none_bad (has_data p) (text_header p) (data_header p)
@@ -123,9 +121,9 @@ segments_inside p =
 in_space : (flags offset address size : ℕ) → 0x1000 ≤ address → address + size ≤ 0x08000000 → leaves_space (segment flags offset address size) ≡ false
 in_space flags offset address size low high = and_false (is_loaded (segment flags offset address size)) _ (rw (not_less address 0x1000 low, not_less 0x08000000 (address + size) high) refl)
 
-no_space_left : (p : Program) → Fits p → list_any leaves_space (segments p) ≡ false
+no_space_left : (p : Program) → list_any leaves_space (segments p) ≡ false
 unfolding segments
-no_space_left p fits =
+no_space_left p =
     let t = p.text_limit in
     let d = p.data_limit in
     any_of_two leaves_space (has_data p) (text_header p) (data_header p)
@@ -140,20 +138,32 @@ sections_inside p =
     let st = stands p in
     let len = length (elf_of p) in
     let s = spots p in
-    ap (option_map section_start) (none_found (is_section_outside len) (rows_of (has_data p) s)
-    (refl, (refl, each_maybe (λ r. is_section_outside len r ≡ false) (has_data p) _ _ refl
-    (inside len s.symbols s.symbols_size st.symbols.within,
-    (inside len s.strings s.strings_size st.strings.within,
-    (inside len s.text_relocs s.text_relocs_size st.text_relocs.within,
-    (inside len s.data_relocs s.data_relocs_size st.data_relocs.within,
-    (inside len s.titles s.titles_size st.titles.within, record {}))))))))
+    ap (option_map section_start) (none_found (is_section_outside len) (rows_of (has_data p) s) (
+      refl,
+      (
+        refl,
+        each_maybe (λ r. is_section_outside len r ≡ false) (has_data p) _ _ refl (
+          inside len s.symbols s.symbols_size st.symbols.within,
+          (
+            inside len s.strings s.strings_size st.strings.within,
+            (
+              inside len s.text_relocs s.text_relocs_size st.text_relocs.within,
+              (
+                inside len s.data_relocs s.data_relocs_size st.data_relocs.within,
+                (inside len s.titles s.titles_size st.titles.within, record {}),
+              ),
+            ),
+          ),
+        ),
+      ),
+    ))
 
-fits_space : (p : Program) → Fits p → is_too_large (segments p) (rows_of (has_data p) (spots p)) ≡ false
+fits_space : (p : Program) → is_too_large (segments p) (rows_of (has_data p) (spots p)) ≡ false
 unfolding is_too_large
-fits_space p fits =
+fits_space p =
     let t = p.text_limit in
     let sum = text_sum (nat_lt 0 (text_size p)) (spots p) in
-    rw (no_space_left p fits, found_text (has_data p) (spots p)) (not_less 16777216 _ (omega arith))
+    rw (no_space_left p, found_text (has_data p) (spots p)) (not_less 16777216 _ (omega arith))
 
 -- ---- the whole
 
@@ -171,7 +181,7 @@ fault_left p fits =
     (elf_file p) (not_less len 64 (omega arith)) (exec (header_of p)) refl
     (inside len 64 (56 * length (segments p)) (omega arith))
     (inside len (sections_at p) (64 * length (sections p)) (omega arith))
-    (segments_inside p) (sections_inside p) (no_bad_segment p fits) (fits_space p fits)
+    (segments_inside p) (sections_inside p) (no_bad_segment p) (fits_space p)
     ∙ rw (has_text b s, symbols_place b s) refl
 
 pub no_fault : (p : Program) → Fits p → 0 < length p.text → fault_of (elf_of p) ≡ None

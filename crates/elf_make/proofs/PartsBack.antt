@@ -1,35 +1,29 @@
 -- The parts of a program's file are the program's.
-use Rattle.std.proofs.Common.{◌≡◌, ℕ, zero, suc, ◌+◌, ◌-◌, ◌*◌, ◌/◌, ◌^◌, ◌<◌, ◌≤◌, Bool, true, false, cond, not, List, [], ◌∷◌, ◌++◌, length, map, take, drop, refl, sym, ap, subst, ◌∙◌, arith, length-append}
-use Rattle.std.specs.Prelude.{if◌then◌else◌, ◌==◌, nat_lt}
-use Rattle.std.specs.List.{All, filter, flat_map, position_or_len, slice_get}
-use Rattle.std.specs.Option.{option_map_or}
+use Rattle.std.proofs.Common.{◌≡◌, ℕ, ◌+◌, ◌<◌, Bool, true, false, cond, List, [], ◌∷◌, ◌++◌, length, map, take, drop, refl, sym, ap, ◌∙◌, arith, length-append}
+use Rattle.std.specs.Prelude.{if◌then◌else◌, nat_lt}
+use Rattle.std.specs.List.{filter, flat_map}
 use Rattle.std.proofs.lemmas.Bool.Decides.{nat_tests}
 use Rattle.std.proofs.lemmas.List.{append-nil, length-map}
-use Rattle.elf_read.specs.declared.elf.Elf.{Elf}
-use Rattle.elf_read.specs.declared.elf.Segment.{Segment}
-use Rattle.elf_read.specs.declared.elf.Section.{Section}
 use Rattle.elf_read.specs.declared.elf.Symbol.{Symbol}
 use Rattle.elf_read.specs.declared.tables.ProgramHeader.{ProgramHeader}
 use Rattle.elf_read.specs.declared.tables.SectionHeader.{SectionHeader}
 use Rattle.elf_read.specs.declared.tables.Reloc.{Reloc}
 use Rattle.elf_read.specs.Fields.{range_of}
 use Rattle.elf_read.specs.Tables as read
-use Rattle.elf_read.specs.Faults.{is_loaded, is_symbols, section_headers}
+use Rattle.elf_read.specs.Faults.{is_loaded, section_headers}
 use Rattle.elf_read.specs.Parts as back
 use Rattle.elf_read.specs.Parts.{parts_of}
-use Rattle.rv_asm.specs.Kept.{symbol_size}
 use Rattle.rv_asm.specs.declared.program.Program.{Program}
 use Rattle.rv_asm.specs.declared.symbol.Fixup.{Fixup}
 use Rattle.elf_make.specs.declared.rows.SectionRow.{SectionRow}
 use Rattle.elf_make.specs.Rows.{relocation}
-use Rattle.elf_make.specs.File.{text_size, text_bytes, has_data, data_address, data_offset, segments, symbol_entries, symbol_table, symbols_at, names_at, names, is_of, in_text, in_data, text_relocations, text_relocations_at, data_relocations, data_relocations_at, sections, header_of, elf_of}
+use Rattle.elf_make.specs.File.{text_size, text_bytes, has_data, data_offset, segments, names_at, names, is_of, in_text, in_data, text_relocations, text_relocations_at, data_relocations, data_relocations_at, sections, elf_of}
 use Rattle.elf_make.specs.Parts.{text_segment, data_segment, section_of, null_symbol, symbol_of, reloc_of, elf_parts}
-use Rattle.elf_make.specs.Ranges.{IsFixupInRange}
 use Rattle.elf_make.proofs.Lengths.{length-flat, length-relocation, few}
 use Rattle.elf_make.proofs.Holding.{Holds, cut}
-use Rattle.elf_make.proofs.Reading.{FitsFixup, Each, each_of, header_read, read_reloc, read_table}
-use Rattle.elf_make.proofs.Standing.{Stands, stands, text_header, data_header, text_len}
-use Rattle.elf_make.proofs.Found.{Spots, rows_of, spots, symbols_row, strings_row, text_relocs_row, data_relocs_row, header_part, found_symbols, found_strings, found_relocs, symbols_number_is}
+use Rattle.elf_make.proofs.Reading.{FitsFixup, Each, each_of, read_reloc, read_table}
+use Rattle.elf_make.proofs.Standing.{stands, text_header, data_header, text_len}
+use Rattle.elf_make.proofs.Found.{rows_of, spots, text_relocs_row, data_relocs_row, header_part, found_symbols, found_strings, found_relocs, symbols_number_is}
 use Rattle.elf_make.proofs.ReadTables.{Fits, head_read, segments_read, sections_read, rows_read}
 use Rattle.elf_make.proofs.NamesBack.{names_back, symbols_back, times_24}
 

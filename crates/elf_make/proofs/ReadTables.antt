@@ -1,24 +1,19 @@
 -- The tables of a program's file, read back.
-use Rattle.std.proofs.Common.{◌≡◌, ℕ, zero, suc, ◌+◌, ◌-◌, ◌*◌, ◌/◌, ◌^◌, ◌<◌, ◌≤◌, Bool, true, false, List, [], ◌∷◌, ◌++◌, length, map, refl, sym, ap, subst, ◌∙◌, arith, length-append}
+use Rattle.std.proofs.Common.{◌≡◌, ℕ, ◌+◌, ◌-◌, ◌*◌, ◌/◌, ◌^◌, ◌<◌, ◌≤◌, Bool, true, false, List, [], ◌∷◌, ◌++◌, length, map, refl, subst, ◌∙◌, arith}
 use Rattle.std.specs.Prelude.{if◌then◌else◌}
-use Rattle.std.specs.List.{All, filter, flat_map, sum_by}
 use Rattle.std.proofs.lemmas.List.{map-id}
 use Rattle.elf_read.specs.declared.tables.ProgramHeader.{ProgramHeader}
-use Rattle.elf_read.specs.declared.tables.SectionHeader.{SectionHeader}
 use Rattle.elf_read.specs.Header as read_
 use Rattle.elf_read.specs.Faults.{program_headers, section_headers}
 use Rattle.elf_read.specs.Tables as read
-use Rattle.rv_asm.specs.Kept.{IsSound, symbol_size}
 use Rattle.rv_asm.specs.declared.program.Program.{Program}
-use Rattle.rv_asm.specs.declared.symbol.Fixup.{Fixup}
-use Rattle.elf_make.specs.declared.rows.SectionRow.{SectionRow}
 use Rattle.elf_make.specs.Rows.{program_header, section_header}
 use Rattle.elf_make.specs.File.{text_size, has_data, data_address, data_offset, segments, symbols_at, symbol_table, names_at, names, text_relocations_at, text_relocations, data_relocations_at, data_relocations, section_names_at, section_names, sections_at, no_section, loaded_section, strings_section, table_section, symbols_number, later_names, tables, sections, header_of, elf_of}
 use Rattle.elf_make.specs.Ranges.{IsProgramInRange}
 use Rattle.elf_make.proofs.Lengths.{length-program_header, length-section_header}
 use Rattle.elf_make.proofs.Holding.{Holds}
-use Rattle.elf_make.proofs.Reading.{FitsSegment, FitsSection, FitsHeader, Each, header_read, read_program_header, read_section_header, read_header, read_table}
-use Rattle.elf_make.proofs.Standing.{Stands, stands, text_header, data_header, few_segments, text_len}
+use Rattle.elf_make.proofs.Reading.{FitsSegment, FitsSection, Each, header_read, read_program_header, read_section_header, read_header, read_table}
+use Rattle.elf_make.proofs.Standing.{stands, text_header, data_header, few_segments}
 use Rattle.elf_make.proofs.Found.{rows_of, spots, header_part, rows_are}
 
 -- the program's numbers fit their types, and its file fits in memory
@@ -57,28 +52,28 @@ offset_small : (b : Bool) (n k : ℕ) → n ≤ k → (if b then (n + (4096 - 1)
 offset_small true n k h = omega arith
 offset_small false n k h = omega arith
 
-pub data_offset_small : (p : Program) → Fits p → data_offset p < 2 ^ 26
-data_offset_small p fits = let t = p.text_limit in let o = offset_small (has_data p) (0x1000 + text_size p) (0x1000 + 16777216) (omega arith) in omega arith
+pub data_offset_small : (p : Program) → data_offset p < 2 ^ 26
+data_offset_small p = let t = p.text_limit in let o = offset_small (has_data p) (0x1000 + text_size p) (0x1000 + 16777216) (omega arith) in omega arith
 
-fits_text : (p : Program) → Fits p → FitsSegment (text_header p)
-fits_text p fits = let t = p.text_limit in record { kind = omega arith; flags = omega arith; offset = omega arith; address = omega arith; file_size = omega arith; memory_size = omega arith }
+fits_text : (p : Program) → FitsSegment (text_header p)
+fits_text p = let t = p.text_limit in record { kind = omega arith; flags = omega arith; offset = omega arith; address = omega arith; file_size = omega arith; memory_size = omega arith }
 
-fits_data : (p : Program) → Fits p → FitsSegment (data_header p)
-fits_data p fits =
+fits_data : (p : Program) → FitsSegment (data_header p)
+fits_data p =
     let t = p.text_limit in
     let d = p.data_limit in
-    let o = data_offset_small p fits in
+    let o = data_offset_small p in
     record { kind = omega arith; flags = omega arith; offset = omega arith; address = omega arith; file_size = omega arith; memory_size = omega arith }
 
-fits_segments : (p : Program) → Fits p → Each FitsSegment (segments p)
+fits_segments : (p : Program) → Each FitsSegment (segments p)
 unfolding segments
-fits_segments p fits = (fits_text p fits, subst (Each FitsSegment) (maybe_nil (has_data p) (data_header p)) (each_maybe FitsSegment (has_data p) (data_header p) [] (fits_data p fits) (record {})))
+fits_segments p = (fits_text p, subst (Each FitsSegment) (maybe_nil (has_data p) (data_header p)) (each_maybe FitsSegment (has_data p) (data_header p) [] (fits_data p) (record {})))
 
 pub segments_read : (p : Program) → Fits p → program_headers (elf_of p) ≡ segments p
 unfolding program_headers
 segments_read p fits =
     rw (head_read p fits)
-    (read_table 56 read.program_header program_header (λ (h : ProgramHeader). h) FitsSegment (elf_of p) (read_program_header (elf_of p)) length-program_header 64 (segments p) (fits_segments p fits) (stands p).program_headers
+    (read_table 56 read.program_header program_header (λ (h : ProgramHeader). h) FitsSegment (elf_of p) (read_program_header (elf_of p)) length-program_header 64 (segments p) (fits_segments p) (stands p).program_headers
     ∙ map-id (segments p))
 
 fits_table : (p : Program) → Fits p → (at : ℕ) (part : List ℕ) → Holds (elf_of p) at part → (name kind link info : ℕ) → kind < 5 → link < 5 → FitsSection (table_section name kind at (length part) link info)
@@ -109,18 +104,29 @@ fits_sections p fits =
     let st = stands p in
     let t = p.text_limit in
     let d = p.data_limit in
-    let o = data_offset_small p fits in
+    let o = data_offset_small p in
     let n = number_small (has_data p) in
     let k = symbols_number p in
-    let l = later_names p in
-    (fits_null, (fits_loaded 1 6 0x10000 0x1000 (text_size p) 4 (omega arith) (omega arith) (omega arith) (omega arith),
-    each_maybe FitsSection (has_data p) (loaded_section 7 3 (data_address p) (data_offset p) (length p.bytes) 8) (tables p)
-    (fits_loaded 7 3 (data_address p) (data_offset p) (length p.bytes) 8 (omega arith) (omega arith) (omega arith) (omega arith))
-    (fits_table p fits (symbols_at p) (symbol_table p) st.symbols l 2 (k + 1) (1 + length p.funcs + length p.objects) (omega arith) n,
-    (fits_strings p fits (names_at p) (names p) st.strings (l + 8),
-    (fits_table p fits (text_relocations_at p) (text_relocations p) st.text_relocs (l + 16) 4 k 1 (omega arith) (omega arith),
-    (fits_table p fits (data_relocations_at p) (data_relocations p) st.data_relocs (l + 27) 4 k (if has_data p then 2 else 0) (omega arith) (omega arith),
-    (fits_strings p fits (section_names_at p) (section_names p) st.titles (l + 38), record {})))))))
+    let l = later_names p in (
+      fits_null,
+      (
+        fits_loaded 1 6 0x10000 0x1000 (text_size p) 4 (omega arith) (omega arith) (omega arith) (omega arith),
+        each_maybe FitsSection (has_data p) (loaded_section 7 3 (data_address p) (data_offset p) (length p.bytes) 8) (tables p)
+            (fits_loaded 7 3 (data_address p) (data_offset p) (length p.bytes) 8 (omega arith) (omega arith) (omega arith) (omega arith)) (
+              fits_table p fits (symbols_at p) (symbol_table p) st.symbols l 2 (k + 1) (1 + length p.funcs + length p.objects) (omega arith) n,
+              (
+                fits_strings p fits (names_at p) (names p) st.strings (l + 8),
+                (
+                  fits_table p fits (text_relocations_at p) (text_relocations p) st.text_relocs (l + 16) 4 k 1 (omega arith) (omega arith),
+                  (
+                    fits_table p fits (data_relocations_at p) (data_relocations p) st.data_relocs (l + 27) 4 k (if has_data p then 2 else 0) (omega arith) (omega arith),
+                    (fits_strings p fits (section_names_at p) (section_names p) st.titles (l + 38), record {}),
+                  ),
+                ),
+              ),
+            ),
+      ),
+    )
 
 pub sections_read : (p : Program) → Fits p → section_headers (elf_of p) ≡ map header_part (sections p)
 unfolding section_headers

@@ -1,14 +1,11 @@
 -- Entries and tables, read back.
-use Rattle.std.proofs.Common.{◌≡◌, ℕ, ℤ, pos, zero, suc, ◌+◌, ◌-◌, ◌*◌, ◌/◌, ◌%◌, ◌^◌, ◌<◌, ◌≤◌, List, [], ◌∷◌, ◌++◌, length, map, drop, get_or, refl, sym, ap, subst, ◌∙◌, arith}
+use Rattle.std.proofs.Common.{◌≡◌, ℕ, suc, ◌+◌, ◌*◌, ◌/◌, ◌%◌, ◌^◌, ◌<◌, List, [], ◌∷◌, ◌++◌, length, map, drop, get_or, refl, sym, ap, subst, ◌∙◌, arith}
 use Rattle.std.specs.List.{All, flat_map, range_with_len}
 use Rattle.std.proofs.lemmas.List.{get_or-drop}
-use Rattle.std.specs.Int.{w64, cast_signed}
 use Rattle.byteorder.specs.Endian.{little_number}
 use Rattle.elf_read.specs.declared.header.Header.{Header}
 use Rattle.elf_read.specs.declared.tables.ProgramHeader.{ProgramHeader}
-use Rattle.elf_read.specs.declared.tables.SectionHeader.{SectionHeader}
 use Rattle.elf_read.specs.declared.tables.SymbolEntry.{SymbolEntry}
-use Rattle.elf_read.specs.declared.tables.Reloc.{Reloc}
 use Rattle.elf_read.specs.Fields.{u8_at, u16_at, u32_at, u64_at, i64_at}
 use Rattle.elf_read.specs.Tables as read
 use Rattle.elf_read.specs.Tables.{table}

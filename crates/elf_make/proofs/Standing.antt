@@ -1,6 +1,6 @@
 -- Where each part of a program's file stands.
-use Rattle.std.proofs.Common.{◌≡◌, ℕ, ◌+◌, ◌-◌, ◌*◌, ◌/◌, ◌^◌, ◌<◌, ◌≤◌, Bool, true, false, List, [], ◌∷◌, ◌++◌, length, refl, sym, ap, subst, ◌∙◌, arith}
-use Rattle.std.specs.Prelude.{nat_lt, if◌then◌else◌}
+use Rattle.std.proofs.Common.{◌≡◌, ℕ, ◌+◌, ◌≤◌, Bool, true, false, List, [], ◌∷◌, length, sym, subst, arith}
+use Rattle.std.specs.Prelude.{if◌then◌else◌}
 use Rattle.std.specs.List.{flat_map}
 use Rattle.std.proofs.lemmas.List.{append-nil}
 use Rattle.elf_read.specs.declared.tables.ProgramHeader.{ProgramHeader}
@@ -9,7 +9,7 @@ use Rattle.rv_asm.specs.declared.program.Program.{Program}
 use Rattle.elf_make.specs.Rows.{file_header, program_header, section_header}
 use Rattle.elf_make.specs.File.{text_bytes, text_size, has_data, data_offset, segments, segment, data_address, symbol_table, names, text_relocations, data_relocations, section_names, symbols_at, names_at, text_relocations_at, data_relocations_at, section_names_at, sections_at, sections, header_of, loaded_parts, table_parts, parts, elf_of}
 use Rattle.elf_make.proofs.Lengths.{length-file_header, text_length, headers_size}
-use Rattle.elf_make.proofs.Holding.{Holds, InOrder, HoldsEach, end_of, held_each, held_laid, length-laid}
+use Rattle.elf_make.proofs.Holding.{Holds, InOrder, HoldsEach, held_each, held_laid}
 
 up : (n : ℕ) → n ≤ round_up 8 n
 up n = omega arith
@@ -44,9 +44,16 @@ unfolding loaded_parts table_parts symbols_at names_at text_relocations_at data_
 in_order p =
     let few = few_segments p in
     let size = headers_size (segments p) in
-    let text = text_len p in
-    (omega arith, (omega arith, (subst (λ n. 0x1000 + n ≤ data_offset p) (sym text) (after_text (has_data p) (0x1000 + text_size p)),
-    (up _, (up _, (up _, (up _, (up _, (up _, record {})))))))))
+    let text = text_len p in (
+      omega arith,
+      (
+        omega arith,
+        (
+          subst (λ n. 0x1000 + n ≤ data_offset p) (sym text) (after_text (has_data p) (0x1000 + text_size p)),
+          (up _, (up _, (up _, (up _, (up _, (up _, record {})))))),
+        ),
+      ),
+    )
 
 -- each part of the file stands at its place, and the section headers end it
 pub record Stands (p : Program) (file : List ℕ) : Type 0 where

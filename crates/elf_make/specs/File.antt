@@ -2,7 +2,6 @@
 use Rattle.std.specs.Prelude.{ℕ, ◌+◌, ◌-◌, ◌*◌, Bool, true, false, not, ◌==◌, nat_lt, List, [], ◌∷◌, ◌++◌, length, map, codes, if◌then◌else◌}
 use Rattle.std.specs.List.{filter, flat_map, sum_by}
 use Rattle.elf_read.specs.declared.tables.ProgramHeader.{ProgramHeader}
-use Rattle.elf_read.specs.declared.tables.SectionHeader.{SectionHeader}
 use Rattle.elf_read.specs.declared.tables.SymbolEntry.{SymbolEntry}
 use Rattle.rv_asm.specs.Emission.{round_up}
 use Rattle.rv_asm.specs.Kept.{symbol_size}
@@ -118,14 +117,18 @@ abbrev pub no_section : SectionRow
 no_section = record {
   name = 0;
   header = record { kind = 0; flags = 0; address = 0; offset = 0; size = 0; link = 0 };
-  info = 0; align = 0; entry_size = 0;
+  info = 0;
+  align = 0;
+  entry_size = 0;
 }
 
 abbrev pub loaded_section : ℕ → ℕ → ℕ → ℕ → ℕ → ℕ → SectionRow
 loaded_section name flags address offset size align = record {
   name = name;
   header = record { kind = 1; flags = flags; address = address; offset = offset; size = size; link = 0 };
-  info = 0; align = align; entry_size = 0;
+  info = 0;
+  align = align;
+  entry_size = 0;
 }
 
 -- a section of strings
@@ -133,7 +136,9 @@ abbrev pub strings_section : ℕ → ℕ → ℕ → SectionRow
 strings_section name offset size = record {
   name = name;
   header = record { kind = 3; flags = 0; address = 0; offset = offset; size = size; link = 0 };
-  info = 0; align = 1; entry_size = 0;
+  info = 0;
+  align = 1;
+  entry_size = 0;
 }
 
 -- a section with entries of 24 bytes: symbols (2) or relocations (4)
@@ -141,7 +146,9 @@ abbrev pub table_section : ℕ → ℕ → ℕ → ℕ → ℕ → ℕ → Secti
 table_section name kind offset size link info = record {
   name = name;
   header = record { kind = kind; flags = 0; address = 0; offset = offset; size = size; link = link };
-  info = info; align = 8; entry_size = 24;
+  info = info;
+  align = 8;
+  entry_size = 24;
 }
 
 -- the number of the section of symbols

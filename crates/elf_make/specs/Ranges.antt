@@ -1,5 +1,5 @@
 -- What the types of a program's numbers say of them.
-use Rattle.std.specs.Prelude.{ℕ, ◌^◌, ◌<◌}
+use Rattle.std.specs.Prelude.{◌^◌, ◌<◌}
 use Rattle.std.specs.List.{All}
 use Rattle.rv_asm.specs.declared.program.Program.{Program}
 use Rattle.rv_asm.specs.declared.symbol.Fixup.{Fixup}

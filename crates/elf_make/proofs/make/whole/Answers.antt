@@ -1,11 +1,10 @@
 -- The steps are the whole, and each number fits.
-use Rattle.std.proofs.Common.{◌≡◌, ◌≤◌, ℕ, List, ◌++◌, length, drop, ap, ◌∙◌, arith}
+use Rattle.std.proofs.Common.{◌≡◌, ℕ, List, ◌++◌, length, drop, ap, ◌∙◌, arith}
 use Rattle.std.specs.List.{flat_map}
 use Rattle.rv_asm.specs.Emission.{round_up}
-use Rattle.elf_make.specs.Rows.{file_header, section_header}
+use Rattle.elf_make.specs.Rows.{section_header}
 use Rattle.elf_make.specs.Bytes.{placed}
-use Rattle.elf_make.specs.Bytes.{laid}
-use Rattle.elf_make.specs.File.{header_of, sections, sections_at, section_names_at, section_names}
+use Rattle.elf_make.specs.File.{sections, sections_at}
 use Rattle.elf_make.proofs.Wholly.{whole_is, patched}
 use Rattle.elf_make.proofs.make.whole.Goals as goal
 

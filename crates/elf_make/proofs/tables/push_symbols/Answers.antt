@@ -1,5 +1,5 @@
 -- The bytes of one more, and what its type says.
-use Rattle.std.proofs.Common.{◌≡◌, arith, ap, subst, length, take, ◌∙◌}
+use Rattle.std.proofs.Common.{arith, ap, subst}
 use Rattle.std.proofs.lemmas.Grind.{common_steps}
 use Rattle.std.proofs.lemmas.List.Elements.{All-more}
 use Rattle.std.proofs.lemmas.List.{take_all}
