@@ -1,15 +1,14 @@
 -- A text without a fault gives a program that keeps its facts.
-use Rattle.std.proofs.Common.{◌≡◌, ℕ, ◌+◌, ◌*◌, ◌^◌, ◌<◌, ◌≤◌, arith, sym, ap, subst, length, List, [], ◌++◌, Option, None}
+use Rattle.std.proofs.Common.{◌≡◌, ℕ, ◌+◌, ◌*◌, ◌^◌, ◌<◌, ◌≤◌, arith, sym, ap, subst, length, List, [], None}
 use Rattle.std.specs.List.{All, sum_by}
 use Rattle.asm_text.specs.Statements.{weight}
 use Rattle.asm_text.specs.declared.statement.Statement.{Statement}
 use Rattle.rv_asm.specs.declared.meaning.Meaning.{Meaning}
 use Rattle.rv_asm.specs.declared.symbol.Named.{Named}
 use Rattle.rv_asm.specs.declared.symbol.Fixup.{Fixup}
-use Rattle.rv_asm.specs.declared.state.State.{State}
 use Rattle.rv_asm.specs.State.{start, after, collect}
 use Rattle.rv_asm.specs.Order.{least}
-use Rattle.rv_asm.specs.Names.{names_from, name_faults_from}
+use Rattle.rv_asm.specs.Names.{name_faults_from}
 use Rattle.rv_asm.specs.Faults.{faults_from}
 use Rattle.rv_asm.specs.Emission.{AreWords, code, bytes, func, object, fixup}
 use Rattle.rv_asm.specs.Kept.{symbol_size}

@@ -10,7 +10,7 @@ use Rattle.rv_asm.specs.declared.program.Program.{Program}
 use Rattle.rv_asm.specs.declared.symbol.Fixup.{Fixup}
 use Rattle.rv_asm.specs.declared.symbol.Named.{Named}
 use Rattle.rv_asm.specs.Assembly.{IsProgramOf}
-use Rattle.rv_asm.specs.Emission.{Stands, AreWords, entry_or}
+use Rattle.rv_asm.specs.Emission.{Stands, AreWords}
 use Rattle.rv_asm.specs.Kept.{IsSound, symbol_size}
 
 stands_once : (v w : ℕ) (c : Code) → Stands v c → Stands w c → v ≡ w

@@ -1,8 +1,7 @@
 -- The sizes of what statements give, and what a text without a fault keeps.
-use Rattle.std.proofs.Common.{rules, tests, ◌≡◌, ℕ, zero, suc, ◌+◌, ◌*◌, ◌/◌, ◌<◌, ◌≤◌, Bool, true, false, not, cond, arith, refl, sym, ap, ◌∙◌, subst, min, length, replicate, get_or, List, [], ◌∷◌, ◌++◌, Option, Some, None, is_some}
-use Rattle.std.specs.Prelude.{nat_lt, ℤ, ◌||◌, ◌&&◌, ◌==◌}
+use Rattle.std.proofs.Common.{◌≡◌, ℕ, ◌+◌, ◌*◌, ◌/◌, ◌<◌, ◌≤◌, Bool, true, false, not, cond, arith, refl, sym, ◌∙◌, length, List, [], ◌∷◌, ◌++◌, Option, Some, None, is_some}
+use Rattle.std.specs.Prelude.{nat_lt, ℤ, ◌||◌}
 use Rattle.std.specs.List.{All, sum_by}
-use Rattle.std.specs.Int.{to_le_bytes, w32, w64}
 use Rattle.std.proofs.lemmas.Bool.{ltb-false}
 use Rattle.std.proofs.lemmas.List.{length-append, length-replicate}
 use Rattle.std.proofs.lemmas.List.Elements.{All-append, All-push}
@@ -11,7 +10,6 @@ use Rattle.rv_isa.specs.declared.instr.Cond.{Cond}
 use Rattle.asm_text.specs.Keywords.{lookup}
 use Rattle.std.specs.Str.{bytes_eq}
 use Rattle.asm_text.specs.Statements.{weight, name_size}
-use Rattle.asm_text.specs.declared.keyword.Section.{Section}
 use Rattle.asm_text.specs.declared.operand.Target.{Target}
 use Rattle.asm_text.specs.declared.operand.Target.TheVariants.{Name, Address}
 use Rattle.asm_text.specs.declared.body.Body.{Body}
@@ -25,7 +23,7 @@ use Rattle.rv_asm.specs.declared.symbol.Fixup.{Fixup}
 use Rattle.rv_asm.specs.declared.state.Open.{Open}
 use Rattle.rv_asm.specs.declared.state.State.{State}
 use Rattle.rv_asm.specs.Order.{lesser, least, when, fault}
-use Rattle.rv_asm.specs.State.{is_data, is_void, size, size_of, step, placed_step, after, collect, opened, func_after, object_after, funcs_after}
+use Rattle.rv_asm.specs.State.{is_data, is_void, size, step, placed_step, after, collect, opened, func_after, object_after, funcs_after}
 use Rattle.rv_asm.specs.Names.{add, add_labels, add_own, names_after, names_from, text_at}
 use Rattle.rv_asm.specs.Faults.{faults, faults_from, void_faults, nesting_faults, aim_faults, size_faults, end_faults, left_open, len_of, jal_reaches, branch_reaches, aim}
 use Rattle.rv_asm.specs.Emission.{AreWords, jal_code, branch_code, call_code, text_code, code, slot_bytes, data_bytes, bytes, named, own_func, func, own_object, object, to_function, jal_fixup, own_fixup, fixup, nop}

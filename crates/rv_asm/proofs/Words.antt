@@ -1,5 +1,5 @@
 -- One word more.
-use Rattle.std.proofs.Common.{◌≡◌, ℕ, ◌+◌, ◌<◌, List, [], ◌∷◌, ◌++◌, length, take, get_or, subst, sym, ap, ◌∙◌, replicate, append_assoc, arith}
+use Rattle.std.proofs.Common.{◌≡◌, ℕ, ◌+◌, ◌<◌, List, [], ◌∷◌, ◌++◌, length, take, get_or, subst, sym, ap, ◌∙◌, replicate, append_assoc}
 use Rattle.std.proofs.lemmas.List.{take_more, replicate-append-replicate}
 use Rattle.rv_asm.specs.declared.code.Code.{Code}
 use Rattle.rv_asm.specs.Emission.{Stands, AreWords}

@@ -1,5 +1,5 @@
 -- What a text stands for: a program, or the first line with a fault and its kind.
-use Rattle.std.specs.Prelude.{◌≡◌, ℕ, ◌+◌, ◌/◌, ◌%◌, List, [], ◌++◌, Option}
+use Rattle.std.specs.Prelude.{◌≡◌, ℕ, ◌/◌, ◌%◌, List, [], ◌++◌, Option}
 use Rattle.std.specs.Option.{option_map}
 use Rattle.asm_text.specs.Statements.{statements}
 use Rattle.asm_text.specs.declared.statement.Statement.{Statement}

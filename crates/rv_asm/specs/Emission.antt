@@ -1,9 +1,8 @@
 -- What statements give: words, bytes, functions, objects, relocations and the entry.
-use Rattle.std.specs.Prelude.{◌≡◌, ℕ, ◌+◌, ◌-◌, ◌*◌, ◌/◌, ◌%◌, ◌^◌, ◌<◌, ◌≤◌, ℤ, pos, ◌-ℤ◌, Bool, not, ◌||◌, List, [], ◌∷◌, ◌++◌, length, replicate, Option, Some, None, if◌then◌else◌}
+use Rattle.std.specs.Prelude.{◌≡◌, ℕ, ◌+◌, ◌-◌, ◌*◌, ◌/◌, ◌%◌, ◌^◌, ◌<◌, ℤ, pos, ◌-ℤ◌, not, ◌||◌, List, [], ◌∷◌, length, replicate, Option, Some, None, if◌then◌else◌}
 use Rattle.std.specs.List.{slice_index_or}
 use Rattle.std.specs.Int.{to_le_bytes, w32, w64}
 use Rattle.rv_isa.specs.Reads.{Reads}
-use Rattle.rv_isa.specs.declared.instr.Instr.{Instr}
 use Rattle.rv_isa.specs.declared.instr.Instr.TheVariants as instr
 use Rattle.rv_isa.specs.declared.instr.Cond.{Cond}
 use Rattle.rv_isa.specs.declared.instr.ImmOp.TheVariants.{Addi}
@@ -14,16 +13,16 @@ use Rattle.asm_text.specs.declared.operand.Target.{Target}
 use Rattle.asm_text.specs.declared.operand.Target.TheVariants.{Name, Address}
 use Rattle.asm_text.specs.declared.statement.Statement.{Statement}
 use Rattle.rv_asm.specs.declared.meaning.Meaning.{Meaning}
-use Rattle.rv_asm.specs.declared.meaning.Meaning.TheVariants.{Label, Function, Object}
+use Rattle.rv_asm.specs.declared.meaning.Meaning.TheVariants.{Function}
 use Rattle.rv_asm.specs.declared.code.Code.{Code}
 use Rattle.rv_asm.specs.declared.code.Code.TheVariants.{Instruction, Raw}
 use Rattle.rv_asm.specs.declared.symbol.Named.{Named}
 use Rattle.rv_asm.specs.declared.symbol.Fixup.{Fixup}
 use Rattle.rv_asm.specs.declared.state.Open.{Open}
 use Rattle.rv_asm.specs.declared.state.State.{State}
-use Rattle.rv_asm.specs.State.{is_data, is_void, size, start, step, after, collect}
+use Rattle.rv_asm.specs.State.{is_data, is_void, size, start, after}
 use Rattle.rv_asm.specs.Names.{text_at}
-use Rattle.rv_asm.specs.Faults.{aim, address_of, jal_reaches, branch_reaches}
+use Rattle.rv_asm.specs.Faults.{aim, jal_reaches, branch_reaches}
 
 -- ---- words of text
 

@@ -1,6 +1,5 @@
 -- The faults of statements, but for names that are given again.
-use Rattle.std.specs.Prelude.{ℕ, ◌+◌, ◌*◌, ◌%◌, ℤ, pos, neg_ℤ, ◌-ℤ◌, unsigned_abs, int_lt, Bool, true, false, not, ◌==◌, ◌&&◌, nat_lt, List, [], ◌∷◌, ◌++◌, Option, Some, None, is_some, if◌then◌else◌}
-use Rattle.std.specs.Option.{option_map_or}
+use Rattle.std.specs.Prelude.{ℕ, ◌+◌, ◌%◌, ℤ, pos, neg_ℤ, ◌-ℤ◌, unsigned_abs, int_lt, Bool, true, false, not, ◌==◌, ◌&&◌, nat_lt, List, [], ◌∷◌, ◌++◌, Option, Some, None, is_some, if◌then◌else◌}
 use Rattle.asm_text.specs.Bodies.{is_within}
 use Rattle.asm_text.specs.Keywords.{lookup}
 use Rattle.asm_text.specs.declared.body.Body.{Body}
@@ -9,7 +8,7 @@ use Rattle.asm_text.specs.declared.operand.Target.{Target}
 use Rattle.asm_text.specs.declared.operand.Target.TheVariants.{Name, Address}
 use Rattle.asm_text.specs.declared.statement.Statement.{Statement}
 use Rattle.rv_asm.specs.declared.meaning.Meaning.{Meaning}
-use Rattle.rv_asm.specs.declared.meaning.Meaning.TheVariants.{Label, Function, Object}
+use Rattle.rv_asm.specs.declared.meaning.Meaning.TheVariants.{Label, Function}
 use Rattle.rv_asm.specs.declared.state.Open.{Open}
 use Rattle.rv_asm.specs.declared.state.State.{State}
 use Rattle.rv_asm.specs.State.{is_data, is_misplaced, is_void, is_unknown, is_bad, size, step}

@@ -1,5 +1,5 @@
 -- The names that statements give, and the fault of a name that is given again.
-use Rattle.std.specs.Prelude.{ℕ, ◌+◌, ◌*◌, Bool, List, [], ◌∷◌, ◌++◌, Option, Some, None, is_some, if◌then◌else◌}
+use Rattle.std.specs.Prelude.{ℕ, ◌+◌, List, [], ◌∷◌, ◌++◌, is_some, if◌then◌else◌}
 use Rattle.asm_text.specs.Keywords.{lookup}
 use Rattle.asm_text.specs.declared.body.Body.{Body}
 use Rattle.asm_text.specs.declared.body.Body.TheVariants as says

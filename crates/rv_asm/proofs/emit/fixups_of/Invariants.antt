@@ -1,8 +1,6 @@
 use Rattle.std.proofs.Common.{◌≡◌, ◌≤◌, ◌*◌, ◌++◌, drop}
-use Rattle.std.specs.List.{All}
 use Rattle.rv_asm.specs.State.{start, collect}
 use Rattle.rv_asm.specs.Emission.{fixup}
-use Rattle.rv_asm.specs.Kept.{IsSound, IsBefore}
 use Rattle.rv_asm.proofs.emit.fixups_of.Given as goal
 
 abbrev pub invariant-loop-i : goal.invariant-loop-i

@@ -1,7 +1,6 @@
-use Rattle.std.proofs.Common.{refl, ap, sym, ◌∙◌, ◌≡◌, ◌++◌, [], ◌∷◌, map, List, ℕ}
+use Rattle.std.proofs.Common.{refl, sym, ◌∙◌}
 use Rattle.std.specs.Str.{bytes_eq}
 use Rattle.rv_asm.proofs.Named.{insert_view, added}
-use Rattle.rv_asm.specs.declared.meaning.Meaning.{Meaning}
 use Rattle.rv_asm.proofs.names.Names.add.Goals as goal
 
 pub returns-in_ok-insert-in-None : goal.returns-in_ok-insert-in-None

@@ -1,4 +1,4 @@
-use Rattle.rv_asm.proofs.Named.{lookup_view, insert_view}
+use Rattle.rv_asm.proofs.Named.{lookup_view}
 use Rattle.rv_asm.proofs.names.Names.get.Goals as goal
 
 pub returns : goal.returns
