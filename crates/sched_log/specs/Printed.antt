@@ -3,6 +3,7 @@ use Rattle.std.specs.Prelude.{◌≡◌, ℕ, ◌^◌, ◌<◌, ◌≤◌, List,
 use Rattle.std.specs.List.{AllByRecursion}
 use Rattle.sched_log.specs.Script.{count, fault_of, events_of}
 use Rattle.sched_log.specs.declared.read.TheConstants.{COUNT_LIMIT}
+use Rattle.sched_log.specs.declared.line.TheConstants.{LAST_HART}
 use Rattle.sched_log.specs.declared.event.Event.{Event}
 use Rattle.sched_log.specs.declared.event.Event.TheVariants.{Steps, Real, Till}
 
@@ -26,8 +27,8 @@ printed events = flat_map (λ e. terminated (line_text e)) events ++ terminated 
 
 -- an event that a line can ask for
 abbrev pub IsInRange : Event → Type 0
-IsInRange (Steps h n) = (h ≤ 63) × (n < 2 ^ 32)
-IsInRange (Real h n) = (h ≤ 63) × (n < 2 ^ 32)
+IsInRange (Steps h n) = (h ≤ LAST_HART) × (n < 2 ^ 32)
+IsInRange (Real h n) = (h ≤ LAST_HART) × (n < 2 ^ 32)
 IsInRange (Till n) = n < 2 ^ 32
 
 -- events that a script can ask for
