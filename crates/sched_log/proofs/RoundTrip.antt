@@ -12,7 +12,8 @@ use Rattle.texts.proofs.Numbers.{decimal_read, not_in_decimal}
 use Rattle.texts.proofs.LinesBack.{IsOneLine, lines_back}
 use Rattle.sched_log.specs.Lines.{line_of, by_words, command, of_hart}
 use Rattle.sched_log.specs.Script.{count, event_of, kind_of, fault_of, events_of, script}
-use Rattle.sched_log.specs.Printed.{spaced, line_text, terminated, printed, IsInRange, AreInRange, ReadsAs}
+use Rattle.sched_log.specs.Printed.{spaced, line_text, terminated, printed, ReadsAs}
+use Rattle.sched_log.specs.Ranges.{IsInRange, AreInRange}
 use Rattle.sched_log.proofs.Steps.{faults_from, fault_start}
 use Rattle.sched_log.specs.declared.line.Line.{Line}
 use Rattle.sched_log.specs.declared.line.Line.TheVariants.{Does, End}

@@ -25,17 +25,6 @@ terminated line = line ++ 10 ∷ []
 unfoldable pub printed : List Event → List ℕ
 printed events = flat_map (λ e. terminated (line_text e)) events ++ terminated (codes "end")
 
--- an event that a line can ask for
-abbrev pub IsInRange : Event → Type 0
-IsInRange (Steps h n) = (h ≤ LAST_HART) × (n < 2 ^ 32)
-IsInRange (Real h n) = (h ≤ LAST_HART) × (n < 2 ^ 32)
-IsInRange (Till n) = n < 2 ^ 32
-
--- events that a script can ask for
-pub record AreInRange (events : List Event) : Type 0 where
-  pub each : AllByRecursion IsInRange events
-  pub sum : sum_by count events ≤ COUNT_LIMIT
-
 -- the text is a script, and asks for these events
 pub record ReadsAs (events : List Event) (text : List ℕ) : Type 0 where
   pub fine : fault_of text ≡ None
