@@ -1,9 +1,8 @@
 -- What is written of events is read again.
-use Rattle.std.proofs.Common.{rules, ◌≡◌, ℕ, ◌+◌, ◌^◌, ◌<◌, ◌≤◌, Bool, true, false, List, [], ◌∷◌, ◌++◌, length, map, Option, Some, None, refl, ap, sym, arith, eqb, append_assoc, ◌∙◌}
-use Rattle.std.specs.Prelude.{decimal, codes, sum_by, flat_map, ◌||◌}
+use Rattle.std.proofs.Common.{◌≡◌, ℕ, ◌+◌, ◌^◌, ◌<◌, ◌≤◌, false, List, [], ◌∷◌, ◌++◌, length, map, Some, None, refl, ap, sym, arith, eqb, append_assoc, ◌∙◌}
+use Rattle.std.specs.Prelude.{decimal, codes, sum_by, flat_map}
 use Rattle.std.specs.List.{slice_split, All, AllByRecursion}
-use Rattle.std.specs.Option.{option_map, option_or}
-use Rattle.std.proofs.lemmas.Bool.{ne_eqb, le-leb, lt-ltb, le-ltb}
+use Rattle.std.proofs.lemmas.Bool.{ne_eqb, le-leb, le-ltb}
 use Rattle.std.proofs.lemmas.List.Splits.{slice_split_at, slice_split_none}
 use Rattle.std.proofs.lemmas.List.Elements.{All-append, All-cons, All-from_recursion}
 use Rattle.std.proofs.lemmas.List.Sums.{sum_by-cons}
@@ -11,9 +10,10 @@ use Rattle.std.proofs.lemmas.Fmt.{decimal_nonempty}
 use Rattle.texts.specs.Texts.{lines_of, number_of}
 use Rattle.texts.proofs.Numbers.{decimal_read, not_in_decimal}
 use Rattle.texts.proofs.LinesBack.{IsOneLine, lines_back}
-use Rattle.sched_log.specs.Lines.{line_of, by_words, command, of_hart, turns}
-use Rattle.sched_log.specs.Script.{count, count_of, event_of, kind_of, fault_of, events_of, script}
-use Rattle.sched_log.specs.Printed.{spaced, line_text, terminated, printed, IsInRange, AreInRange, ReadsAs}
+use Rattle.sched_log.specs.Lines.{line_of, by_words, command, of_hart}
+use Rattle.sched_log.specs.Script.{count, event_of, kind_of, fault_of, events_of, script}
+use Rattle.sched_log.specs.Printed.{spaced, line_text, terminated, printed, ReadsAs}
+use Rattle.sched_log.specs.Ranges.{IsInRange, AreInRange}
 use Rattle.sched_log.proofs.Steps.{faults_from, fault_start}
 use Rattle.sched_log.specs.declared.line.Line.{Line}
 use Rattle.sched_log.specs.declared.line.Line.TheVariants.{Does, End}
@@ -131,6 +131,6 @@ pub reads_back : (es : List Event) (text : List ℕ) → text ≡ printed es →
 reads_back es text is w =
     let lines : faults_from 1 false 0 (script (printed es)) ≡ None = ap (faults_from 1 false 0) (script_back es w.each) ∙ none_in es 1 0 (omega (arith, w.sum)) in
     record {
-        fine = ap fault_of is ∙ sym (fault_start (printed es)) ∙ lines;
-        same = ap events_of is ∙ events_back es w.each;
+      fine = ap fault_of is ∙ sym (fault_start (printed es)) ∙ lines;
+      same = ap events_of is ∙ events_back es w.each;
     }

@@ -1,5 +1,5 @@
 -- One line more, for a reader that keeps of the lines before only whether an end stands there and what their counts sum to.
-use Rattle.std.proofs.Common.{◌≡◌, ℕ, ◌+◌, ◌<◌, Bool, true, false, List, [], ◌∷◌, ◌++◌, length, map, take, get_or, Option, Some, None, refl, ap, sym, arith, append_assoc, ◌∙◌}
+use Rattle.std.proofs.Common.{◌≡◌, ℕ, ◌+◌, Bool, false, List, [], ◌∷◌, ◌++◌, length, map, take, get_or, Option, Some, None, refl, ap, sym, arith, append_assoc, ◌∙◌}
 use Rattle.std.specs.Prelude.{not, ◌||◌, sum_by, flat_map}
 use Rattle.std.specs.List.{list_any, range_with_len}
 use Rattle.std.specs.Option.{option_map, option_or}
@@ -10,7 +10,7 @@ use Rattle.std.proofs.Math.Bool.{or-false}
 use Rattle.std.proofs.Math.Seq.{take-append_seam, take-append-add}
 use Rattle.texts.specs.Texts.{lines_of}
 use Rattle.sched_log.specs.Lines.{line_of}
-use Rattle.sched_log.specs.Script.{when, first_of, is_end, count_of, event_of, kind_of, fault_at, no_end, fault_in, script, fault_of, events_of}
+use Rattle.sched_log.specs.Script.{when, first_of, is_end, count_of, event_of, kind_of, fault_at, no_end, script, fault_of, events_of}
 use Rattle.sched_log.specs.declared.fault.TheConstants.{NO_END}
 use Rattle.sched_log.specs.declared.line.Line.{Line}
 use Rattle.sched_log.specs.declared.line.Line.TheVariants.{Passed}

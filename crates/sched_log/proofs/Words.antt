@@ -5,7 +5,6 @@ use Rattle.std.specs.List.{slice_split}
 use Rattle.std.proofs.lemmas.List.Splits.{length-slice_split}
 use Rattle.sched_log.specs.Lines.{any_empty, by_words, command}
 use Rattle.sched_log.specs.Parts.{parts_behind}
-use Rattle.sched_log.specs.declared.line.Line.{Line}
 use Rattle.sched_log.specs.declared.line.Line.TheVariants.{Wrong}
 
 cond_same : {X : Type 0} (b : Bool) (x : X) → cond b x x ≡ x

@@ -1,4 +1,5 @@
 pub mod Lines
 pub mod Parts
 pub mod Printed
+pub mod Ranges
 pub mod Script

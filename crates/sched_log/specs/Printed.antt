@@ -3,6 +3,7 @@ use Rattle.std.specs.Prelude.{◌≡◌, ℕ, ◌^◌, ◌<◌, ◌≤◌, List,
 use Rattle.std.specs.List.{AllByRecursion}
 use Rattle.sched_log.specs.Script.{count, fault_of, events_of}
 use Rattle.sched_log.specs.declared.read.TheConstants.{COUNT_LIMIT}
+use Rattle.sched_log.specs.declared.line.TheConstants.{LAST_HART}
 use Rattle.sched_log.specs.declared.event.Event.{Event}
 use Rattle.sched_log.specs.declared.event.Event.TheVariants.{Steps, Real, Till}
 
@@ -23,17 +24,6 @@ terminated line = line ++ 10 ∷ []
 -- the lines of the events in order, and the end
 unfoldable pub printed : List Event → List ℕ
 printed events = flat_map (λ e. terminated (line_text e)) events ++ terminated (codes "end")
-
--- an event that a line can ask for
-abbrev pub IsInRange : Event → Type 0
-IsInRange (Steps h n) = (h ≤ 63) × (n < 2 ^ 32)
-IsInRange (Real h n) = (h ≤ 63) × (n < 2 ^ 32)
-IsInRange (Till n) = n < 2 ^ 32
-
--- events that a script can ask for
-pub record AreInRange (events : List Event) : Type 0 where
-  pub each : AllByRecursion IsInRange events
-  pub sum : sum_by count events ≤ COUNT_LIMIT
 
 -- the text is a script, and asks for these events
 pub record ReadsAs (events : List Event) (text : List ℕ) : Type 0 where

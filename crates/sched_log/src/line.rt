@@ -1,7 +1,8 @@
 //! One line by itself.
 
 ghost use Rattle.std.specs.Prelude.{◌≡◌, [], ◌∷◌};
-ghost use Rattle.sched_log.specs.Lines.{line_of, by_words, is_passed, of_hart, turns};
+ghost use Rattle.sched_log.specs.Lines.{line_of, by_words, is_passed};
+ghost use Rattle.sched_log.specs.Ranges.{HasRange};
 
 use crate::event::Event;
 use crate::fault::{BAD_NUMBER, WRONG_FORM};
@@ -30,7 +31,8 @@ fn is_passed(line: &[u8]) -> bool
 /// A line of one word.
 #[tactic(auto, unfolding(crate::specs::Lines::command))]
 fn of_one(name: &[u8]) -> Line
-    ensures { result ≡ by_words (name.now ∷ []) }
+    ensures is { result ≡ by_words (name.now ∷ []) }
+    ensures range { HasRange result }
 {
     if name == b"end".as_slice() {
         return Line::End;
@@ -41,7 +43,8 @@ fn of_one(name: &[u8]) -> Line
 /// A line of two words.
 #[tactic(auto, unfolding(crate::specs::Lines::command))]
 fn of_two(name: &[u8], n: &[u8]) -> Line
-    ensures { result ≡ by_words (name.now ∷ n.now ∷ []) }
+    ensures is { result ≡ by_words (name.now ∷ n.now ∷ []) }
+    ensures range { HasRange result }
 {
     if name != b"till".as_slice() || n.is_empty() {
         return Line::Wrong(WRONG_FORM);
@@ -55,7 +58,8 @@ fn of_two(name: &[u8], n: &[u8]) -> Line
 /// A line of three words.
 #[tactic(auto, unfolding(crate::specs::Lines::command))]
 fn of_three(name: &[u8], h: &[u8], n: &[u8]) -> Line
-    ensures { result ≡ by_words (name.now ∷ h.now ∷ n.now ∷ []) }
+    ensures is { result ≡ by_words (name.now ∷ h.now ∷ n.now ∷ []) }
+    ensures range { HasRange result }
 {
     let steps = name == b"steps".as_slice();
     if !steps && name != b"real".as_slice() || h.is_empty() || n.is_empty() {
@@ -77,7 +81,8 @@ fn of_three(name: &[u8], h: &[u8], n: &[u8]) -> Line
 /// What a line is.
 #[tactic(auto, unfolding(crate::specs::Lines::line_of), using(crate::proofs::Words::too_many))]
 pub fn line_of(line: &[u8]) -> Line
-    ensures { result ≡ line_of line.now }
+    ensures is { result ≡ line_of line.now }
+    ensures range { HasRange result }
 {
     if is_passed(line) {
         return Line::Passed;

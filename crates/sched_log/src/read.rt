@@ -3,6 +3,7 @@
 ghost use Rattle.std.specs.Prelude.{◌≡◌, ◌≢◌, ◌+◌, ◌≤◌, ◌++◌, None, Some, IfErr, IfOk, OnOk};
 ghost use Rattle.std.specs.Option.{IfNone};
 ghost use Rattle.sched_log.specs.Script.{is_end, is_command, count_of, event_of, kind_of, fault_of, events_of};
+ghost use Rattle.sched_log.specs.Ranges.{AreInRange};
 ghost use Rattle.sched_log.specs.declared.fault.ScriptFault.TheVariants.{NoMemory as Full};
 
 use crate::event::Event;
@@ -69,10 +70,11 @@ fn push_event(events: &mut Items<Event>, line: &Line) -> Result<(), NoMemory>
 
 /// The events of a script, or the first line with a fault and the fault's kind. A script has the wanted `end` or the
 /// fault 5 at the number of its lines plus 1.
-#[tactic(auto, using(crate::proofs::Steps::fault_start, crate::proofs::Steps::fault_found, crate::proofs::Steps::fault_done, crate::proofs::Steps::event_done))]
+#[tactic(auto, using(crate::proofs::Steps::fault_start, crate::proofs::Steps::fault_found, crate::proofs::Steps::fault_done, crate::proofs::Steps::event_done, crate::proofs::Ranges::in_range))]
 pub fn read_script(alloc: Global, bytes: &[u8]) -> Result<Items<Event>, ScriptFault>
     ensures none { OnOk result (fault_of bytes.now ≡ None) }
     ensures events { IfOk result (λ events. events ≡ events_of bytes.now) }
+    ensures range { IfOk result AreInRange }
     ensures fault { IfErr result (λ e. e ≢ Full → fault_of bytes.now ≡ Some e) }
 {
     let mut events = Items::new(alloc);

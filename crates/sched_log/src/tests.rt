@@ -89,7 +89,9 @@ fn told(alloc: Global, script: &[u8]) -> Result<Vec<u8>, Fail> {
 fn scripts_are_read_as_their_events_or_their_first_fault(rt: HostRuntime) -> Result<(), Fail> {
     let alloc = rt.alloc();
     for case in SCRIPTS.lines() {
-        let (script, answer) = case.split_once(" => ").expect(&rt, "a script and an answer");
+        let (script, answer) = case
+            .split_once(" => ")
+            .expect(&rt, "a script and an answer");
         let found = told(alloc, &lines(alloc, script)?)?;
         assert_eq!(rt; found, lines(alloc, answer)?, "{case}");
     }
@@ -119,6 +121,9 @@ fn events_are_written_as_lines_and_the_end(rt: HostRuntime) -> Result<(), NoMemo
         },
     ];
     let text = write_log(rt.alloc(), &events)?;
-    assert_eq!(rt; text.as_slice(), b"steps 63 0\nreal 0 10\ntill 18446744073709551615\nend\n".as_slice());
+    assert_eq!(rt;
+        text.as_slice(),
+        b"steps 63 0\nreal 0 10\ntill 18446744073709551615\nend\n".as_slice()
+    );
     Ok(())
 }

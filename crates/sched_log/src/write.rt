@@ -1,7 +1,8 @@
 //! Writing a script.
 
 ghost use Rattle.std.specs.Prelude.{◌≡◌, ◌++◌, string_bytes, IfOk, OnOk};
-ghost use Rattle.sched_log.specs.Printed.{line_text, terminated, printed, AreInRange, ReadsAs};
+ghost use Rattle.sched_log.specs.Printed.{line_text, terminated, printed, ReadsAs};
+ghost use Rattle.sched_log.specs.Ranges.{AreInRange};
 
 use crate::event::Event;
 use oc_base::fault::NoMemory;

@@ -1,5 +1,8 @@
 use Rattle.std.proofs.Common.{◌≡◌, ◌+◌, ◌≤◌, ◌++◌, length}
-use Rattle.sched_log.specs.Script.{fault_of, events_of, script}
+use Rattle.std.specs.Prelude.{sum_by}
+use Rattle.std.specs.List.{AllByRecursion}
+use Rattle.sched_log.specs.Ranges.{IsInRange}
+use Rattle.sched_log.specs.Script.{count, fault_of, events_of, script}
 use Rattle.sched_log.proofs.Steps.{faults_from}
 use Rattle.sched_log.proofs.read.read_script.Given as goal
 
@@ -8,6 +11,8 @@ invariant-lines l = record {
   fault : faults_from l.number l.ended l.sum (script l.rest) ≡ fault_of l.fn.bytes;
   events : l.events ++ events_of l.rest ≡ events_of l.fn.bytes;
   small : l.sum ≤ 2000000000;
+  ranges : AllByRecursion IsInRange l.events;
+  sums : sum_by count l.events ≡ l.sum;
   few : l.number + length l.rest ≤ length l.fn.bytes + 1;
 }
 
