@@ -49,7 +49,7 @@ returns c =
     let segments = c.as_slice-segments.ensures in
     let symbols = c.as_slice-symbols.ensures in
     let relocs = c.as_slice-relocs.ensures in
-    rw c.in_ok-image.ensures (record {
+    rw c.of.ensures (record {
       texts = record { same = c.requires.same; rise = rw lines at c.text_laws.ensures.starts };
       parts = record {
         same = rw (lines, segments) at c.in_ok-parts.ensures.same;
