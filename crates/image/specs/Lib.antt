@@ -3,4 +3,3 @@ pub mod Jumps
 pub mod Picture
 pub mod Targets
 pub mod Texts
-pub mod Tops

@@ -6,7 +6,7 @@ ghost use Rattle.image.specs.Texts.{covers, word_at};
 ghost use Rattle.image.specs.Aims.{is_inside, aim_place};
 ghost use Rattle.image.specs.Picture.{Picture, IsKept, is_second};
 
-use crate::funcs::FuncIndex;
+use crate::funcs::func_at;
 use crate::ranges::{Aim, Func, Part, TextRange};
 use crate::texts::{text_at, word_at};
 use finite::search::place_of;
@@ -23,7 +23,7 @@ pub struct Image {
     parts: Items<Part>,
     entry: u64,
     region: Range,
-    funcs: FuncIndex,
+    funcs: Items<Func>,
     sites: Items<Aim>,
     pairs: Items<Aim>,
     slots: Items<Aim>,
@@ -61,9 +61,8 @@ impl Model for Image {
 }
 
 impl Image {
-    /// An image of these parts.
+    /// An image of these parts. It takes no memory.
     pub fn of(
-        alloc: Global,
         texts: Vec<TextRange>,
         parts: Vec<Part>,
         entry: u64,
@@ -73,7 +72,7 @@ impl Image {
         pairs: Vec<Aim>,
         slots: Vec<Aim>,
         headers: (u64, u64),
-    ) -> Result<Image, NoMemory>
+    ) -> Image
         requires { IsKept (record {
           texts = texts.items;
           parts = parts.items;
@@ -85,7 +84,7 @@ impl Image {
           slots = slots.items;
           headers = headers;
         }) }
-        ensures { IfOk result (λ i. i ≡ record {
+        ensures { result ≡ record {
           texts = texts.items;
           parts = parts.items;
           entry = entry;
@@ -95,19 +94,19 @@ impl Image {
           pairs = pairs.items;
           slots = slots.items;
           headers = headers;
-        }) }
+        } }
     {
-        Ok(Image {
+        Image {
             texts: Items::from_vec(texts),
             parts: Items::from_vec(parts),
             entry,
             region,
-            funcs: FuncIndex::of(alloc, funcs)?,
+            funcs: Items::from_vec(funcs),
             sites: Items::from_vec(sites),
             pairs: Items::from_vec(pairs),
             slots: Items::from_vec(slots),
             headers,
-        })
+        }
     }
 
     /// An equal image.
@@ -121,7 +120,7 @@ impl Image {
             parts: Items::from_vec(parts),
             entry: self.entry,
             region: self.region,
-            funcs: self.funcs.copy(alloc)?,
+            funcs: Items::from_slice(alloc, self.funcs.as_slice())?,
             sites: Items::from_slice(alloc, self.sites.as_slice())?,
             pairs: Items::from_slice(alloc, self.pairs.as_slice())?,
             slots: Items::from_slice(alloc, self.slots.as_slice())?,
@@ -214,7 +213,7 @@ impl Image {
     pub fn func_at(&self, at: u64) -> Option<u32>
         ensures { result ≡ position (is_inside at) self.now.funcs }
     {
-        self.funcs.func_at(at)
+        func_at(self.funcs.as_slice(), at)
     }
 
     /// Whether an address is that of the second word of a pair.

@@ -116,9 +116,9 @@ fn image_of(
     let pairs = pairs(alloc, lines, code, elf.entry, relocs)?;
     let slots = slots(alloc, data, code, symbols, relocs)?;
     let headers = headers_of(elf);
-    Image::of(
-        alloc, texts, parts, elf.entry, region, funcs, sites, pairs, slots, headers,
-    )
+    Ok(Image::of(
+        texts, parts, elf.entry, region, funcs, sites, pairs, slots, headers,
+    ))
 }
 
 fn region_of(elf: &Elf, region: Option<Range>) -> Range
