@@ -507,6 +507,16 @@ fn first_wrong_address<'a>(
     Ok(None)
 }
 
+/// The same, where `main` ends with its third word and `leaf` starts with its second.
+const OVERLAP_CASES: &str = "\
+10000 = Some(66231), true, Some(0), false
+10004 = Some(16941159), true, Some(0), false
+1000b = None, true, Some(0), false
+1000c = Some(151), true, Some(1), false
+10017 = None, true, Some(1), false
+10018 = None, false, None, false
+";
+
 #[test]
 fn a_copy_answers_at_addresses(rt: HostRuntime) -> Result<(), Fail> {
     let file = file(rt.alloc(), PAIR)?;
@@ -517,6 +527,14 @@ fn a_copy_answers_at_addresses(rt: HostRuntime) -> Result<(), Fail> {
     assert_eq!(rt; (copy.entry(), copy.headers()), (0x10000, (0, 0)));
     assert_eq!(rt;
         first_wrong_address(rt.alloc(), &copy, ADDRESS_CASES)?,
+        None
+    );
+    let file = changed(rt.alloc(), &file, "b8 8 c, c8 8 10004, d0 8 14")?;
+    let Ok(image) = image_of(rt.alloc(), &file, None)? else {
+        return Err(Fail::from(AllocError));
+    };
+    assert_eq!(rt;
+        first_wrong_address(rt.alloc(), &image, OVERLAP_CASES)?,
         None
     );
     Ok(())

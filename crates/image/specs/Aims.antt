@@ -1,5 +1,5 @@
 -- The functions that words of text and of data aim at.
-use Rattle.std.specs.Prelude.{◌≡◌, ◌≢◌, ℕ, ◌+◌, ◌-◌, ◌%◌, Bool, not, ◌==◌, ◌&&◌, nat_le, nat_lt, List, drop, find, position, is_some, Option, Some, None, option_and_then, if◌then◌else◌}
+use Rattle.std.specs.Prelude.{ℕ, ◌+◌, ◌-◌, ◌%◌, Bool, not, ◌==◌, ◌&&◌, nat_le, nat_lt, List, drop, find, position, is_some, Option, None, option_and_then, if◌then◌else◌}
 use Rattle.std.specs.Option.{option_map}
 use Rattle.byteorder.specs.Endian.{little_number}
 use Rattle.image.specs.declared.ranges.TextRange.{TextRange}
@@ -7,7 +7,7 @@ use Rattle.image.specs.declared.ranges.Part.{Part}
 use Rattle.image.specs.declared.ranges.Func.{Func}
 use Rattle.image.specs.declared.ranges.Aim.{Aim}
 use Rattle.image.specs.Jumps.{jal_target, far_target}
-use Rattle.image.specs.Texts.{text_at, word_at, word_after, is_target}
+use Rattle.image.specs.Texts.{word_at, word_after, is_target}
 
 abbrev pub func_start : Func → ℕ
 func_start f = f.from
