@@ -1,7 +1,7 @@
 //! The original machine: a guest's hart, its memory and its outputs, from the state before the first step on.
 //!
-//! `specs/Start.antt` says what stands before the first step, `specs/Steps.antt` what a step leaves, and `specs/Calls.antt`
-//! what the calls of the system do. A step takes the fetched word and the meaning of links as arguments, so that a machine
+//! `specs/Start.antt` says what stands before the first step, and `specs/Loaded.antt` what memory then holds place by place;
+//! `specs/Steps.antt` says what a step leaves, and `specs/Calls.antt` what the calls of the system do. A step takes the fetched word and the meaning of links as arguments, so that a machine
 //! whose code has been moved is the same definition.
 #![tactic(auto)]
 
