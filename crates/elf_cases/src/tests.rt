@@ -517,25 +517,32 @@ const OVERLAP_CASES: &str = "\
 10018 = None, false, None, false
 ";
 
+/// The same of a copy of the image of the guest with a pair, of which the file is changed.
+fn first_wrong_copy<'a>(
+    alloc: Global,
+    changes: &str,
+    cases: &'a str,
+) -> Result<Option<(&'a str, String)>, AllocError> {
+    let whole = file(alloc, PAIR)?;
+    let image = match image_of(alloc, &changed(alloc, &whole, changes)?, None)? {
+        Ok(image) => image,
+        Err(fault) => return Ok(Some((cases, fault))),
+    };
+    let Ok(copy) = image.copy(alloc) else {
+        return Err(AllocError);
+    };
+    first_wrong_address(alloc, &copy, cases)
+}
+
 #[test]
 fn a_copy_answers_at_addresses(rt: HostRuntime) -> Result<(), Fail> {
-    let file = file(rt.alloc(), PAIR)?;
-    let Ok(image) = image_of(rt.alloc(), &file, None)? else {
-        return Err(Fail::from(AllocError));
-    };
-    let copy = image.copy(rt.alloc())?;
-    assert_eq!(rt; (copy.entry(), copy.headers()), (0x10000, (0, 0)));
-    assert_eq!(rt;
-        first_wrong_address(rt.alloc(), &copy, ADDRESS_CASES)?,
-        None
-    );
-    let file = changed(rt.alloc(), &file, "b8 8 c, c8 8 10004, d0 8 14")?;
-    let Ok(image) = image_of(rt.alloc(), &file, None)? else {
-        return Err(Fail::from(AllocError));
-    };
-    assert_eq!(rt;
-        first_wrong_address(rt.alloc(), &image, OVERLAP_CASES)?,
-        None
-    );
+    assert_eq!(rt; first_wrong_copy(rt.alloc(), "", ADDRESS_CASES)?, None);
+    Ok(())
+}
+
+#[test]
+fn the_least_function_counts_where_two_overlap(rt: HostRuntime) -> Result<(), Fail> {
+    let changes = "b8 8 c, c8 8 10004, d0 8 14";
+    assert_eq!(rt; first_wrong_copy(rt.alloc(), changes, OVERLAP_CASES)?, None);
     Ok(())
 }
