@@ -56,16 +56,14 @@ impl Guest {
 
     /// A call of a hart whose clear address is `AT`.
     fn call(&mut self, alloc: Global, words: &[&[u8]; 9]) -> Result<Effect, NoMemory> {
-        let regs = [
+        let args = [
             Value::plain(number(words[2], 16)),
             Value::plain(number(words[3], 16)),
             Value::plain(number(words[4], 16)),
             Value::plain(number(words[5], 16)),
             Value::plain(number(words[6], 16)),
-            Value::plain(0),
-            Value::plain(0),
-            Value::plain(number(words[1], 10)),
         ];
+        let regs = registers(Value::plain(number(words[1], 10)), args);
         let hart = (number(words[0], 10) % 64) as u32;
         syscall(alloc, &mut self.sys, &mut self.mem, &Same, hart, AT, &regs)
     }
@@ -93,6 +91,13 @@ impl Guest {
         }
         Ok(0)
     }
+}
+
+/// The values of `x10` to `x17` for a call with these arguments.
+fn registers(number: Value, args: [Value; 5]) -> [Value; 8] {
+    let [a0, a1, a2, a3, a4] = args;
+    let zero = Value::plain(0);
+    [a0, a1, a2, a3, a4, zero, zero, number]
 }
 
 /// The number that digits write.
@@ -329,13 +334,14 @@ fn harts_are_full_at_their_limit(rt: HostRuntime) -> Result<(), Fail> {
 fn a_thread_gets_what_its_flags_ask_for(rt: HostRuntime) -> Result<(), Fail> {
     let mut guest = Guest::new(rt.alloc())?;
     // The flags with which musl makes a thread.
-    let mut regs = [Value::plain(0); 8];
-    regs[0] = Value::plain(0x7d_0f00);
-    regs[1] = Value::plain(AT + 64);
-    regs[2] = Value::plain(AT);
-    regs[3] = Value::plain(77);
-    regs[4] = Value::plain(AT + 8);
-    regs[7] = Value::plain(220);
+    let args = [
+        Value::plain(0x7d_0f00),
+        Value::plain(AT + 64),
+        Value::plain(AT),
+        Value::plain(77),
+        Value::plain(AT + 8),
+    ];
+    let regs = registers(Value::plain(220), args);
     let effect = syscall(
         rt.alloc(),
         &mut guest.sys,
@@ -366,12 +372,12 @@ fn links_are_seen_by_their_original_numbers_and_refused_in_registers(
 ) -> Result<(), Fail> {
     let mut guest = Guest::new(rt.alloc())?;
     guest.mem.store(AT, Width::D, Value::link(0x12014), &One)?;
-    let mut regs = [Value::plain(0); 8];
-    regs[0] = Value::plain(1);
-    regs[1] = Value::plain(AT);
-    regs[2] = Value::plain(3);
-    regs[4] = Value::link(0x12014);
-    regs[7] = Value::plain(64);
+    let one = Value::plain(1);
+    let link = Value::link(0x12014);
+    let regs = registers(
+        Value::plain(64),
+        [one, Value::plain(AT), Value::plain(3), one, link],
+    );
     let effect = syscall(
         rt.alloc(),
         &mut guest.sys,
@@ -383,7 +389,7 @@ fn links_are_seen_by_their_original_numbers_and_refused_in_registers(
     )?;
     assert_eq!(rt; effect.reply, Reply::Answer(3));
     assert_eq!(rt; guest.sys.output(1), [0x28, 0, 1].as_slice());
-    regs[1] = Value::link(0x12014);
+    let regs = registers(Value::plain(64), [one, link, link, one, one]);
     let effect = syscall(
         rt.alloc(),
         &mut guest.sys,
