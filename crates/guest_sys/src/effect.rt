@@ -44,6 +44,6 @@ pub struct Effect {
     pub reply: Reply,
     /// The harts that are woken, in the order of their waiting.
     pub woken: Items<u32>,
-    /// The bytes of memory that the call wrote.
+    /// The bytes of memory that the call wrote. No range is empty.
     pub written: Items<Range>,
 }

@@ -13,6 +13,8 @@ mod mapping;
 mod ranges;
 pub mod service;
 pub mod state;
+#[cfg(test)]
+mod tests;
 mod threads;
 mod waiting;
 
