@@ -1,9 +1,6 @@
 -- What is written of events.
-use Rattle.std.specs.Prelude.{◌≡◌, ℕ, ◌^◌, ◌<◌, ◌≤◌, List, [], ◌∷◌, ◌++◌, None, codes, decimal, sum_by, flat_map}
-use Rattle.std.specs.List.{AllByRecursion}
-use Rattle.sched_log.specs.Script.{count, fault_of, events_of}
-use Rattle.sched_log.specs.declared.read.TheConstants.{COUNT_LIMIT}
-use Rattle.sched_log.specs.declared.line.TheConstants.{LAST_HART}
+use Rattle.std.specs.Prelude.{◌≡◌, ℕ, List, [], ◌∷◌, ◌++◌, None, codes, decimal, flat_map}
+use Rattle.sched_log.specs.Script.{fault_of, events_of}
 use Rattle.sched_log.specs.declared.event.Event.{Event}
 use Rattle.sched_log.specs.declared.event.Event.TheVariants.{Steps, Real, Till}
 

@@ -1,5 +1,5 @@
 -- What a script can ask for.
-use Rattle.std.specs.Prelude.{⊤, ℕ, ◌^◌, ◌<◌, ◌≤◌, List, sum_by}
+use Rattle.std.specs.Prelude.{⊤, ◌^◌, ◌<◌, ◌≤◌, List, sum_by}
 use Rattle.std.specs.List.{AllByRecursion}
 use Rattle.sched_log.specs.Script.{count}
 use Rattle.sched_log.specs.declared.line.TheConstants.{LAST_HART}
