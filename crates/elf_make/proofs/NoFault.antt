@@ -11,7 +11,8 @@ use Rattle.elf_read.specs.declared.tables.SectionHeader.{SectionHeader}
 use Rattle.elf_read.specs.Fields.{u8_at}
 use Rattle.elf_read.specs.Header as read_
 use Rattle.elf_read.specs.Header.{is_elf, is_riscv64_exec}
-use Rattle.elf_read.specs.Faults.{first_of, when, is_outside, is_loaded, is_text, is_symbols, is_bad, overlap, leaves_space, segment_start, section_start, is_segment_outside, is_section_outside, first_outside_segment, first_outside_section, first_bad_segment, is_too_large, program_headers, section_headers, fault_of}
+use Rattle.finite.specs.First.{first_of, when}
+use Rattle.elf_read.specs.Faults.{is_outside, is_loaded, is_text, is_symbols, is_bad, overlap, leaves_space, segment_start, section_start, is_segment_outside, is_section_outside, first_outside_segment, first_outside_section, first_bad_segment, is_too_large, program_headers, section_headers, header_faults, table_faults, fault_of}
 use Rattle.rv_asm.specs.declared.program.Program.{Program}
 use Rattle.elf_make.specs.declared.rows.FileHeader.{FileHeader}
 use Rattle.elf_make.specs.Rows.{section_header}
@@ -24,7 +25,7 @@ use Rattle.elf_make.proofs.ReadTables.{Fits, each_maybe, head_read, segments_rea
 
 -- the tests, one after another
 by_tests : (file : List ℕ) (h : Header) (hs : List ProgramHeader) (ss : List SectionHeader) → read_.header_of file ≡ h → program_headers file ≡ hs → section_headers file ≡ ss → is_elf file ≡ true → nat_lt (length file) 64 ≡ false → is_riscv64_exec h ≡ true → h.flags ≡ 0 → is_outside (length file) h.program_headers (56 * h.program_header_count) ≡ false → is_outside (length file) h.section_headers (64 * h.section_header_count) ≡ false → first_outside_segment (length file) hs ≡ None → first_outside_section (length file) ss ≡ None → first_bad_segment hs ≡ None → is_too_large hs ss ≡ false → fault_of file ≡ first_of (when (not (list_any is_text ss)) NoText ∷ when (not (is_some (position is_symbols ss))) NoSymbols ∷ [])
-unfolding fault_of
+unfolding fault_of header_faults table_faults
 by_tests file h hs ss eh ehs ess elf long exec flags a b c d e f = rw (eh, ehs, ess, elf, long, exec, flags, a, b, c, d, e, f) refl
 
 -- ---- tests on numbers
