@@ -127,8 +127,8 @@ fn misalignment_is_found_before_a_missing_right(rt: HostRuntime) -> Result<(), F
     for (at, width, answer) in stores {
         assert_eq!(rt; mem.store(at, width, Value::plain(1), &Same), answer);
     }
-    assert!(rt; mem.may_read(AT, 64));
-    assert!(rt; !mem.may_read(AT + 1, 64));
+    assert!(rt; mem.may_read(AT, 60));
+    assert!(rt; !mem.may_read(AT, 61));
     assert!(rt; mem.may_write(AT, 64));
     assert!(rt; mem.may_write(u64::MAX, 0));
     assert!(rt; !mem.may_write(AT + 1, 64));
