@@ -43,7 +43,10 @@ fn assembled(rt: &(impl Abort + AllocGlobal), text: &str) -> Result<MemFiles, Fa
     let alloc = rt.alloc();
     let mut files = Vec::new(alloc);
     let script = b"real 0 100\nend\n".to_vec(alloc)?;
-    files.push((String::from_str(alloc, "guest.s")?, with_newlines(alloc, text)?))?;
+    files.push((
+        String::from_str(alloc, "guest.s")?,
+        with_newlines(alloc, text)?,
+    ))?;
     files.push((String::from_str(alloc, "script")?, script))?;
     let mut files = MemFiles::new(files, Vec::new(alloc));
     let mut out = MemSink::new(Vec::new(alloc), Vec::new(alloc));
