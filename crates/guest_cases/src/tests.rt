@@ -1,0 +1,86 @@
+//! Guests as text, assembled and run over files in memory: the exit status, the output and the last line.
+
+use guest_gen::call::make;
+use oc_base::memory::{MemFiles, MemSink, MemSource};
+use play::call::play;
+use std::alloc::Global;
+use std::process::Abort;
+use std::test::Fail;
+
+// Each guest's name, what its run of 100 steps comes to (status, output, last line), and its text. A newline is written `/`.
+const RUNS: &str = "\
+writes a line|0|hi/|exit 0|.func main; addi x10,x0,1; addi x17,x0,64; lui x11,17; addi x12,x0,3; ecall; addi x10,x0,0; addi x17,x0,93; ecall; .end; .data; .ascii \"hi\\n\"
+counts down twice|28||exit 28|.func main; jal x1,work; jal x1,work; addi x17,x0,93; ecall; .end/.func work; addi x5,x0,2; top: addi x5,x5,-1; bne x5,x0,top; auipc x6,0; andi x10,x6,63; ret; .end
+recurs|6||exit 6|.func main; addi x10,x0,3; jal x1,rec; addi x17,x0,93; ecall; .end/.func rec; beq x10,x0,done; addi x2,x2,-16; sd x1,0(x2); addi x10,x10,-1; jal x1,rec; ld x1,0(x2); addi x2,x2,16; addi x10,x10,2; done: ret; .end
+calls through a table|10||exit 10|.func main; lui x8,17; ld x5,0(x8); jalr x1,0(x5); ld x5,0(x8); jalr x1,0(x5); addi x17,x0,93; ecall; .end; .func f; addi x10,x10,5; ret; .end/.data; .object _ZTV1F; .slot f; .endobject
+reads a byte of a link|8||exit 8|.func start; jal x1,mid; .end; .func mid; jal x1,leaf; .end/.func leaf; sd x1,-8(x2); sb x0,-7(x2); ld x5,-8(x2); andi x10,x5,255; addi x17,x0,93; ecall; .end
+adds a link|119||link use 1 at 0x10004|.func main; jal x1,f; .end; .func f; add x6,x1,x1; .end
+jumps to an address of its own|118||trap 1 at 0x10004 value 0x12000|.func main; lui x5,18; jalr x0,0(x5); .end
+jumps into a far call|114||landing at 0x10010|.func main; lui x5,16; jalr x0,16(x5); nop; call leaf; .end/.func leaf; ret; .end
+returns from the last word|118||trap 1 at 0x1000c value 0x1000c|.func leaf; ret; .end; .func start; jal x1,main; .end/.func main; jal x1,leaf; .end; .entry start
+goes on and on|115||unfinished|.func main; again: jal x0,again; .end
+exits before a function of no instruction|0||exit 0|.func main; addi x17,x0,93; ecall; .end; .func bad; .word 0; .end";
+
+fn with_newlines(alloc: Global, text: &str) -> Result<Vec<u8>, Fail> {
+    let mut bytes = text.as_bytes().to_vec(alloc)?;
+    for byte in &mut bytes {
+        if *byte == b'/' {
+            *byte = b'\n';
+        }
+    }
+    Ok(bytes)
+}
+
+fn words(alloc: Global, first: &str, second: &str) -> Result<Vec<String>, Fail> {
+    let mut words = Vec::new(alloc);
+    words.push(String::from_str(alloc, first)?)?;
+    words.push(String::from_str(alloc, second)?)?;
+    Ok(words)
+}
+
+// The text, a script of 100 steps, and the executable that is made of the text.
+fn assembled(rt: &(impl Abort + AllocGlobal), text: &str) -> Result<MemFiles, Fail> {
+    let alloc = rt.alloc();
+    let mut files = Vec::new(alloc);
+    let script = b"real 0 100\nend\n".to_vec(alloc)?;
+    files.push((
+        String::from_str(alloc, "guest.s")?,
+        with_newlines(alloc, text)?,
+    ))?;
+    files.push((String::from_str(alloc, "script")?, script))?;
+    let mut files = MemFiles::new(files, Vec::new(alloc));
+    let mut out = MemSink::new(Vec::new(alloc), Vec::new(alloc));
+    let mut err = MemSink::new(Vec::new(alloc), Vec::new(alloc));
+    let words = words(alloc, "guest.s", "guest.elf")?;
+    let made = make(alloc, &words, &mut files, &mut out, &mut err);
+    assert_eq!(rt; made.status, 0, "{text}");
+    Ok(files)
+}
+
+fn check(rt: &(impl Abort + AllocGlobal), row: &str) -> Result<(), Fail> {
+    let alloc = rt.alloc();
+    let mut fields = row.splitn(5, '|');
+    let _name = fields.next();
+    let status: u8 = fields.next().unwrap_or("").parse().unwrap_or(0);
+    let wanted = with_newlines(alloc, fields.next().unwrap_or(""))?;
+    let line = fields.next().unwrap_or("");
+    let last = format!(in alloc; "ocolos: {line}\n")?;
+    let mut files = assembled(rt, fields.next().unwrap_or(""))?;
+    let words = words(alloc, "guest.elf", "script")?;
+    let mut input = MemSource::new(Vec::new(alloc), Vec::new(alloc));
+    let mut out = MemSink::new(Vec::new(alloc), Vec::new(alloc));
+    let mut err = MemSink::new(Vec::new(alloc), Vec::new(alloc));
+    let answer = play(alloc, &words, &mut files, &mut input, &mut out, &mut err);
+    assert_eq!(rt; answer.status, status, "{row}");
+    assert_eq!(rt; out.held(), wanted.as_slice(), "{row}");
+    assert_eq!(rt; err.held(), last.as_bytes(), "{row}");
+    Ok(())
+}
+
+#[test]
+fn a_guest_that_is_assembled_runs_to_its_end(rt: HostRuntime) -> Result<(), Fail> {
+    for row in RUNS.lines() {
+        check(&rt, row)?;
+    }
+    Ok(())
+}
