@@ -1,2 +1,3 @@
+pub mod BadLemmas
 pub mod Loops
 pub mod Wholes

@@ -4,3 +4,4 @@ pub mod Tables
 pub mod Faults
 pub mod Parts
 pub mod Whole
+pub mod Spans

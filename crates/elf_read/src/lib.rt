@@ -1,6 +1,7 @@
 //! Parts of an executable's bytes, or the first fault in them.
 #![tactic(auto)]
 
+pub mod bad;
 pub mod checks;
 pub mod elf;
 pub mod fault;

@@ -6,9 +6,9 @@ ghost use Rattle.elf_read.specs.declared.fault.ElfFault.TheVariants.{NoMemory};
 ghost use Rattle.elf_read.specs.Header.{header_of};
 ghost use Rattle.elf_read.specs.Faults.{fault_of, header_faults, table_faults, program_headers, section_headers, is_outside, is_symbols, first_outside_segment, first_outside_section, first_bad_segment, is_too_large};
 
+use crate::bad::first_bad_segment;
 use crate::checks::{
-    first_bad_segment, first_outside_section, first_outside_segment, has_text, is_outside,
-    is_too_large, symbol_table,
+    first_outside_section, first_outside_segment, has_text, is_outside, is_too_large, symbol_table,
 };
 use crate::fault::ElfFault;
 use crate::header::{Header, header_of, is_elf, is_riscv64_exec};
@@ -55,6 +55,7 @@ fn checked_header(bytes: &[u8]) -> Result<Header, ElfFault>
 /// The place of the symbol table among the sections of a file of this length.
 #[tactic(auto, unfolding(crate::specs::Faults::table_faults))]
 fn checked_tables(
+    alloc: Global,
     len: usize,
     headers: &[ProgramHeader],
     sections: &[SectionHeader],
@@ -67,7 +68,7 @@ fn checked_tables(
     ensures sections_inside { OnOk result (first_outside_section len sections.now ≡ None) }
     ensures segments_good { OnOk result (first_bad_segment headers.now ≡ None) }
     ensures room { OnOk result (is_too_large headers.now sections.now ≡ false) }
-    ensures fault { IfErr result (λ e. first_of (table_faults len headers.now sections.now) ≡ Some e) }
+    ensures fault { IfErr result (λ e. e ≢ NoMemory → first_of (table_faults len headers.now sections.now) ≡ Some e) }
 {
     if let Some(offset) = first_outside_segment(len, headers) {
         return Err(ElfFault::Truncated(offset));
@@ -75,7 +76,7 @@ fn checked_tables(
     if let Some(offset) = first_outside_section(len, sections) {
         return Err(ElfFault::Truncated(offset));
     }
-    if let Some(i) = first_bad_segment(headers) {
+    if let Some(i) = first_bad_segment(alloc, headers)? {
         return Err(ElfFault::BadSegment(i as u16));
     }
     if is_too_large(headers, sections) {
@@ -126,7 +127,7 @@ pub fn tables_of(alloc: Global, bytes: &[u8]) -> Result<Tables, ElfFault>
         header.section_headers as usize,
         header.section_header_count as usize,
     )?;
-    let symbols = checked_tables(bytes.len(), &headers, &sections)?;
+    let symbols = checked_tables(alloc, bytes.len(), &headers, &sections)?;
     Ok(Tables {
         header,
         headers,

@@ -2,15 +2,17 @@
 use Rattle.std.proofs.Common.{◌≡◌, ℕ, zero, suc, ◌+◌, ◌<◌, ◌≤◌, Bool, true, false, cond, List, [], ◌∷◌, ◌++◌, length, take, drop, get_or, Option, Some, None, refl, sym, ap, ltb, ◌∙◌, arith}
 use Rattle.std.specs.Prelude.{not, ◌||◌, is_some, IfSome}
 use Rattle.std.proofs.lemmas.List.Quantifiers.{position-Some}
-use Rattle.std.specs.List.{find, flat_map, position, list_any, position_or_len, before_first}
+use Rattle.std.specs.List.{All, find, flat_map, position, list_any, position_or_len, before_first}
 use Rattle.std.specs.Option.{option_map, option_or}
 use Rattle.std.proofs.lemmas.Bool.{ltb-false, ltb-true, lt-ltb}
 use Rattle.std.proofs.lemmas.Bool.Decides.{nat_tests}
 use Rattle.std.proofs.lemmas.Option.{cond_some}
 use Rattle.std.proofs.lemmas.List.{drop_more, take_all}
-use Rattle.std.proofs.lemmas.List.Folds.{list_any_at}
+use Rattle.std.proofs.lemmas.List.Elements.{All-tail}
+use Rattle.std.proofs.lemmas.List.Folds.{list_any_at, list_any_none}
+use Rattle.std.proofs.lemmas.List.Sums.{position_or_len_is}
 
-not_passed : (b : Bool) → (b ≡ true → ⊥) → b ≡ false
+pub not_passed : (b : Bool) → (b ≡ true → ⊥) → b ≡ false
 not_passed true h = absurd (h refl)
 not_passed false h = refl
 
@@ -98,7 +100,7 @@ pub any_find : {X : Type 0} (p : X → Bool) (xs : List X) → list_any p xs ≡
 any_find p [] = refl
 any_find p (x ∷ xs) = find_step (p x) x (list_any p xs) (find p xs) (any_find p xs)
 
-none_of : {X : Type 0} (o : Option X) → is_some o ≡ false → o ≡ None
+pub none_of : {X : Type 0} (o : Option X) → is_some o ≡ false → o ≡ None
 none_of None e = refl
 none_of (Some x) e = absurd cc
 
@@ -113,3 +115,18 @@ list_any_same p q (x ∷ xs) h = rw (h x, list_any_same p q xs h) refl
 pub position_holds : {X : Type 0} (p : X → Bool) (xs : List X) (o : Option ℕ) → o ≡ position p xs → IfSome o (λ i. (d : X) → p (get_or xs i d) ≡ true)
 position_holds p xs None e = tt
 position_holds p xs (Some i) e = λ d. (position-Some p xs i d (sym e)).1
+
+-- none passes
+pub find_fails : {X : Type 0} (p : X → Bool) (xs : List X) → All (λ x. p x ≡ false) xs → find p xs ≡ None
+find_fails p xs fails = none_of (find p xs) (sym (any_find p xs) ∙ list_any_none p xs fails)
+
+-- only one passes
+pub find_only : {X : Type 0} (p : X → Bool) (xs : List X) (i : ℕ) (d : X) → i < length xs → p (get_or xs i d) ≡ true → ((j : ℕ) → j < length xs → p (get_or xs j d) ≡ true → j ≡ i) → find p xs ≡ Some (get_or xs i d)
+find_only p xs i d lt is only =
+    let place : position_or_len p xs ≡ i = position_or_len_is p xs i d (omega (arith, lt)) (λ k before. not_passed (p (get_or xs k d)) (λ e. absurd (let same = only k (omega (arith, before, lt)) e in omega (arith, same, before)))) (λ h. is) in
+    found_first p xs d (rw place lt) ∙ ap (λ (n : ℕ). Some (get_or xs n d)) place
+
+-- two tests that agree on each element
+pub list_any_agree : {X : Type 0} (p q : X → Bool) (xs : List X) → All (λ x. p x ≡ q x) xs → list_any p xs ≡ list_any q xs
+list_any_agree p q [] h = refl
+list_any_agree p q (x ∷ xs) h = rw (h 0 x (omega arith), list_any_agree p q xs (All-tail (λ y. p y ≡ q y) x xs h)) refl

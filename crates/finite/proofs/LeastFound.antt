@@ -1,5 +1,5 @@
 -- The least number with a property is the first of its kind in a range.
-use Rattle.std.proofs.Common.{◌≡◌, ℕ, zero, suc, ◌+◌, ◌<◌, ◌≤◌, Bool, true, false, cond, List, Option, Some, None, ◌⊎◌, inl, inr, refl, sym, ap, ◌∙◌, arith}
+use Rattle.std.proofs.Common.{◌≡◌, ℕ, zero, suc, ◌+◌, ◌<◌, ◌≤◌, Bool, true, false, cond, Option, Some, None, inl, inr, refl, ap, arith}
 use Rattle.std.specs.List.{find, range_with_len}
 use Rattle.std.proofs.lemmas.Bool.{cases_lt}
 use Rattle.finite.specs.Least.{IsLeastOf}
@@ -34,3 +34,19 @@ pub least_found : (p : ℕ → Bool) (lo n : ℕ) (o : Option ℕ) → IsLeastOf
 least_found p lo zero None h = refl
 least_found p lo zero (Some a) h = absurd (omega (arith, h.0.0, h.0.1))
 least_found p lo (suc n) o h = first_case (p lo) p lo n o (find p (range_with_len (lo + 1) n)) refl h (λ k. least_found p (lo + 1) n o k)
+
+-- the first number below n that passes
+pub first_below : (p : ℕ → Bool) (n i : ℕ) → i < n → ((k : ℕ) → k < i → p k ≡ false) → p i ≡ true → Some i ≡ find p (range_with_len 0 n)
+first_below p n i lt before is =
+    least_found p 0 n (Some i) (
+      (omega arith, omega (arith, lt), is),
+      λ b h. (
+          elim (cases_lt b i) [
+            | inl below ↦ absurd (let f = before b below in let t = h.2 in cc)
+            | inr past ↦ past
+          ]),
+    )
+
+-- none below n passes
+pub none_below : (p : ℕ → Bool) (n : ℕ) → ((k : ℕ) → k < n → p k ≡ false) → None ≡ find p (range_with_len 0 n)
+none_below p n fails = least_found p 0 n None (λ b h. (let f = fails b (omega (arith, h.1)) in let t = h.2 in cc))

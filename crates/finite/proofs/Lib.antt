@@ -7,3 +7,4 @@ pub mod MapLaws
 pub mod Mapped
 pub mod OneList
 pub mod Searching
+pub mod SpanLaws

@@ -1,5 +1,5 @@
 -- A search by a key that rises.
-use Rattle.std.proofs.Common.{◌≡◌, ◌≢◌, ℕ, zero, drop, ◌<◌, ◌≤◌, ◌+◌, ◌-◌, suc, Bool, true, false, cond, eqb, leb, ltb, List, [], ◌∷◌, length, get_or, Option, Some, None, refl, inl, inr, arith}
+use Rattle.std.proofs.Common.{◌≡◌, ◌≢◌, ℕ, zero, drop, ◌<◌, ◌≤◌, ◌-◌, suc, Bool, true, false, cond, eqb, leb, ltb, List, [], ◌∷◌, length, get_or, Option, Some, None, refl, inl, inr, arith}
 use Rattle.std.specs.Prelude.{◌==◌, ◌&&◌}
 use Rattle.std.specs.List.{All, AllPairs, AllWithin, find, position, position_or_len}
 use Rattle.std.specs.List.Sorted.{IsNonDecreasingBy}

@@ -1,5 +1,6 @@
-pub mod Calls
+pub mod Harts
 pub mod Loaded
+pub mod Sharing
 pub mod Start
 pub mod States
 pub mod Steps

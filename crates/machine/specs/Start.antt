@@ -1,10 +1,13 @@
 -- The state before the first step. Source: this project for the address map; the System V ABI for the form of the words at x2.
-use Rattle.std.specs.Prelude.{ℕ, ◌+◌, ◌-◌, ◌/◌, true, List, [], ◌∷◌, length, get_or, replicate, None, codes}
+use Rattle.std.specs.Prelude.{ℕ, ◌+◌, ◌-◌, ◌/◌, nat_lt, true, List, [], ◌∷◌, length, get_or, map, max, replicate, None, codes, if◌then◌else◌}
 use Rattle.std.specs.List.{slice_set}
 use Rattle.finite.specs.Maps.{mark}
+use Rattle.oc_base.specs.declared.range.Range.{Range}
 use Rattle.image.specs.declared.ranges.Part.{Part}
 use Rattle.image.specs.declared.ranges.Aim.{Aim}
 use Rattle.image.specs.Picture.{Picture}
+use Rattle.image.specs.Texts.{text_end}
+use Rattle.image.specs.Aims.{part_end}
 use Rattle.link_tags.specs.declared.value.Tag.TheVariants.{Plain}
 use Rattle.link_tags.specs.Values.{plain}
 use Rattle.guest_mem.specs.Memory.{Memory, blank, bytes_of, with_word}
@@ -12,6 +15,7 @@ use Rattle.guest_mem.specs.Access.{put, mapped}
 use Rattle.hart.specs.declared.hart.Hart.{Hart}
 use Rattle.hart.specs.declared.hart.Status.TheVariants.{Live}
 use Rattle.machine.specs.declared.TheConstants.{STACK_START, STACK_END, STACK_POINTER, NAME_AT}
+use Rattle.guest_sys.specs.State.{pages, fresh}
 use Rattle.machine.specs.States.{State}
 
 -- these bytes from an address on
@@ -67,10 +71,24 @@ start_hart image = record {
   clear = 0;
 }
 
-unfoldable pub start_of : Picture → State
-start_of image = record {
-  hart = start_hart image;
+-- ---- the system
+abbrev pub highest : List ℕ → ℕ
+highest [] = 0
+highest (n ∷ ns) = max n (highest ns)
+
+-- where a range ends, if it has an address
+abbrev pub end_of : Range → ℕ
+end_of r = if nat_lt r.from r.to then r.to else 0
+
+-- the break starts with the page behind the text, the data and the region
+abbrev pub break_of : Picture → ℕ
+break_of image = pages (max (max (end_of image.region) (highest (map text_end image.texts))) (highest (map part_end image.parts)))
+
+-- one hart, which has made no call
+unfoldable pub start_of : Picture → (input : List ℕ) → State
+start_of image input = record {
+  harts = start_hart image ∷ [];
   memory = start_memory image;
-  outputs = record { one = []; two = [] };
+  system = fresh input (break_of image);
   outcome = None;
 }

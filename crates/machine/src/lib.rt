@@ -1,17 +1,14 @@
-//! The original machine: a guest's hart, its memory and its outputs, from the state before the first step on.
+//! The original machine: a guest's harts, its memory and its system, from the state before the first step on.
 //!
 //! `specs/Start.antt` says what stands before the first step, and `specs/Loaded.antt` what memory then holds place by place;
-//! `specs/Steps.antt` says what a step leaves, and `specs/Calls.antt` what the calls of the system do. A step takes the fetched word and the meaning of links as arguments, so that a machine
-//! whose code has been moved is the same definition.
+//! `specs/Steps.antt` says what a step of a hart leaves, and `specs/Harts.antt` what becomes of the other harts. A step takes the
+//! fetched word and the meaning of links as arguments, so that a machine whose code has been moved is the same definition.
 #![tactic(auto)]
 
-pub mod calls;
+mod harts;
 pub mod machine;
 pub mod outcome;
 mod start;
-
-/// The most bytes of an output of the guest.
-pub const OUTPUT_LIMIT: usize = 16777216;
 
 /// The first address of the stack.
 pub const STACK_START: u64 = 0x0f80_0000;
@@ -24,6 +21,3 @@ pub const STACK_POINTER: u64 = 0x0fff_ff70;
 
 /// The address of the program's name.
 pub const NAME_AT: u64 = 0x0fff_fff8;
-
-#[cfg(test)]
-mod tests;

@@ -1,19 +1,26 @@
 //! The machine and its step.
-ghost use Rattle.std.specs.Prelude.{◌≡◌, ◌<◌, ◌&&◌, ℕ, OnOk, OnErr, IfOk, not, is_some};
+ghost use Rattle.std.specs.Prelude.{◌≡◌, ◌<◌, ◌&&◌, ℕ, true, length, replicate, OnOk, OnErr, IfOk, not, is_some};
 ghost use Rattle.rv_isa.specs.Instr.{HasWord};
 ghost use Rattle.hart.specs.Effects.{effect_of};
-ghost use Rattle.machine.specs.Calls.{held};
-ghost use Rattle.machine.specs.States.{State};
+ghost use Rattle.guest_mem.specs.Memory.{is_link_at};
+ghost use Rattle.guest_mem.specs.Access.{links_of, with_link};
+ghost use Rattle.guest_sys.specs.Calls.{output};
+ghost use Rattle.machine.specs.Harts.{is_live, hart_in, replied, woken, written_in};
+ghost use Rattle.machine.specs.Sharing.{HasRoom};
 ghost use Rattle.machine.specs.Start.{start_of};
 ghost use Rattle.machine.specs.Loaded.{IsLoaded};
-ghost use Rattle.machine.specs.Steps.{step_with, on_fetched, on_instr, is_live, by_answer, by_reply, after_call, after_effect, jumped_unless, fault_of_jump, answered, original_step, after_steps};
+ghost use Rattle.machine.specs.Steps.{with_hart, fault_of_jump, call_of, called, end_by, by_answer, after_effect, on_fetched, settled, can_step, original_step, original_run};
 
-use crate::calls::{Output, Outputs, Reply, syscall};
+use crate::harts::{Harts, arguments_of};
 use crate::outcome::Outcome;
-use crate::start::{start_hart, start_memory};
+use crate::start::{break_of, start_hart, start_memory};
 use guest_mem::flat::FlatMem;
-use hart::act::{Acted, act, next};
-use hart::hart::{Hart, Status, finish_jump};
+use guest_mem::store::GuestStore;
+use guest_sys::call::syscall;
+use guest_sys::effect::{Effect, Reply};
+use guest_sys::state::Sys;
+use hart::act::Acted;
+use hart::hart::Hart;
 use image::picture::Image;
 use link_tags::origins::{Origins, Same, original};
 use link_tags::value::{Tag, Value};
@@ -28,13 +35,14 @@ use std::marker::Model;
 #[derive(Drop)]
 pub struct Machine {
     alloc: Global,
-    hart: Hart,
+    harts: Harts,
     memory: FlatMem,
-    outputs: Outputs,
+    system: Sys,
     outcome: Option<Outcome>,
 }
 
 impl Model for Machine {
+    ghost use Rattle.std.specs.Prelude.{◌≡◌, length};
     ghost use Rattle.std.specs.Coded.{codes};
     ghost use Rattle.guest_mem.specs.Memory.{memory_code};
     ghost use Rattle.machine.specs.States.{State};
@@ -43,7 +51,9 @@ impl Model for Machine {
 
     ghost coded = { Prim.hlevel (codes, memory_code) };
 
-    ghost view = { λ m. record { hart = m.hart; memory = m.memory.contents; outputs = m.outputs; outcome = m.outcome } };
+    ghost view = { λ m. record { harts = m.harts; memory = m.memory.contents; system = m.system; outcome = m.outcome } };
+
+    ghost invariant = { λ m. length m.harts ≡ m.system.made };
 }
 
 /// What ends the run in place of a jump to an original address, if anything does.
@@ -70,18 +80,63 @@ fn fault_of_jump(image: &Image, pc: u64, to: u64, by: Tag) -> Option<Outcome>
     None
 }
 
+/// What ends the run by the system's reply to hart `h`.
+fn end_by<O: Origins>(harts: &Harts, origins: &O, h: u32, reply: Reply) -> Option<Outcome>
+    requires { h < length harts.now }
+    ensures { result ≡ end_by (O.origin origins.now) h reply harts.now }
+{
+    match reply {
+        Reply::EndHart if harts.have_ended() => {
+            let code = harts.at(h).regs[10].number % 256;
+            Some(Outcome::Exit(code as u8))
+        }
+        Reply::EndAll(code) => Some(Outcome::Exit(code)),
+        Reply::LinkUse { .. } => Some(Outcome::LinkUse {
+            rule: 5,
+            pc: origins.origin(harts.at(h).pc),
+        }),
+        Reply::OutputFull => Some(Outcome::OutputFull),
+        Reply::HartsFull => Some(Outcome::HartsFull),
+        Reply::EndHart
+        | Reply::Answer(_)
+        | Reply::Wait { .. }
+        | Reply::Clone { .. }
+        | Reply::SetClear { .. } => None,
+    }
+}
+
+/// Does for the harts what a system call of hart `h` asks for, and gives what ends the run, if anything does.
+fn finish_call<O: Origins>(
+    harts: &mut Harts,
+    origins: &O,
+    h: u32,
+    effect: &Effect,
+) -> Option<Outcome>
+    requires made { h < length harts.old }
+    requires room { HasRoom effect.now.reply (length harts.old) }
+    ensures harts { harts.new ≡ replied h effect.now.reply (woken effect.now.woken (written_in effect.now.written harts.old)) }
+    ensures end { result ≡ end_by (O.origin origins.now) h effect.now.reply harts.new }
+{
+    harts.write_ranges(effect.written.as_slice());
+    harts.wake(effect.woken.as_slice());
+    harts.reply(h, effect.reply);
+    end_by(harts, origins, h, effect.reply)
+}
+
 impl Machine {
-    /// The machine before its first step.
+    /// The machine before its first step, with what the guest will read as its input.
     #[tactic(auto, unfolding(crate::specs::Start::start_of))]
-    pub fn start(alloc: Global, image: &Image) -> Result<Machine, NoMemory>
-        ensures is { IfOk result (λ m. m ≡ start_of image.now) }
+    pub fn start(alloc: Global, image: &Image, input: Vec<u8>) -> Result<Machine, NoMemory>
+        ensures is { IfOk result (λ m. m ≡ start_of image.now input.items) }
         ensures loaded { IfOk result (λ m. IsLoaded image.now m.memory) }
     {
+        let harts = Harts::start(alloc, start_hart(image))?;
+        let memory = start_memory(alloc, image)?;
         Ok(Machine {
             alloc,
-            hart: start_hart(image),
-            memory: start_memory(alloc, image)?,
-            outputs: Outputs::new(alloc),
+            harts,
+            memory,
+            system: Sys::new(alloc, input, break_of(image)),
             outcome: None,
         })
     }
@@ -93,19 +148,74 @@ impl Machine {
         self.outcome
     }
 
-    /// What the guest has written to an output.
-    pub fn output(&self, output: Output) -> &[u8]
-        ensures { result.now ≡ held output self.now.outputs }
+    /// What the guest has written to output 1 or 2.
+    pub fn output(&self, k: u8) -> &[u8]
+        ensures { result.now ≡ output self.now.system k }
     {
-        self.outputs.of(output)
+        self.system.output(k)
     }
 
-    /// A jump to `to`, by a plain number or a link.
-    #[tactic(auto, unfolding(crate::specs::Steps::by_answer))]
-    fn jump<O: Origins>(&mut self, image: &Image, origins: &O, to: u64, by: Tag, link: Option<Reg>)
-        ensures { self.new ≡ by_answer (O.origin origins.now) image.now (Acted.Jump to by link) self.old }
+    /// How many harts were made. Their numbers are those below.
+    pub fn made(&self) -> u32
+        ensures system { result ≡ self.now.system.made }
+        ensures harts { result ≡ length self.now.harts }
     {
-        let pc = origins.origin(self.hart.pc);
+        self.system.made()
+    }
+
+    /// Whether a hart is live. One that isn't made is not.
+    pub fn is_live(&self, h: u32) -> bool
+        ensures { result ≡ is_live (hart_in self.now.harts h).status }
+    {
+        self.harts.is_live(h)
+    }
+
+    /// A hart that was made.
+    pub fn hart(&self, h: u32) -> &Hart
+        requires { h < length self.now.harts }
+        ensures { result.now ≡ hart_in self.now.harts h }
+    {
+        self.harts.at(h)
+    }
+
+    /// Gives a hart other registers, and another word to go on with.
+    pub fn set_hart(&mut self, h: u32, regs: [Value; 32], pc: u64)
+        requires { h < length self.old.harts }
+        ensures { self.new ≡ with_hart h (record (hart_in self.old.harts h) { regs = regs; pc = pc }) self.old }
+    {
+        self.harts.set(h, regs, pc);
+    }
+
+    /// The addresses of all links in memory with their numbers, ascending.
+    pub fn links(&self, alloc: Global) -> Result<Vec<(u64, u64)>, NoMemory>
+        ensures { IfOk result (λ v. v.items ≡ links_of self.now.memory) }
+    {
+        self.memory.links(alloc)
+    }
+
+    /// Gives the link in memory that holds the byte `at` another number. It takes no memory.
+    pub fn set_link(&mut self, at: u64, number: u64)
+        requires { is_link_at self.old.memory at ≡ true }
+        ensures { self.new ≡ record self.old { memory = with_link self.old.memory at number } }
+    {
+        self.memory.set_link(at, number);
+    }
+
+    /// A jump of hart `h` to `to`, by a plain number or a link.
+    #[tactic(auto, unfolding(crate::specs::Steps::by_answer))]
+    fn jump<O: Origins>(
+        &mut self,
+        image: &Image,
+        origins: &O,
+        h: u32,
+        to: u64,
+        by: Tag,
+        link: Option<Reg>,
+    )
+        requires { h < length self.old.harts }
+        ensures { self.new ≡ by_answer (O.origin origins.now) image.now h (Acted.Jump to by link) self.old }
+    {
+        let pc = origins.origin(self.harts.at(h).pc);
         let target = original(
             Value {
                 number: to,
@@ -114,71 +224,73 @@ impl Machine {
             origins,
         );
         match fault_of_jump(image, pc, target, by) {
-            None => finish_jump(&mut self.hart, to, link),
+            None => self.harts.jump(h, to, link),
             Some(outcome) => self.outcome = Some(outcome),
         }
     }
 
-    /// A call of the system. After want of memory all is as before.
-    #[tactic(auto, unfolding(crate::specs::Steps::after_call))]
-    fn call<O: Origins>(&mut self, origins: &O) -> Result<(), NoMemory>
-        ensures ok { OnOk result (self.new ≡ after_call (O.origin origins.now) self.old) }
+    /// The original address of hart `h`'s instruction.
+    fn place<O: Origins>(&self, origins: &O, h: u32) -> u64
+        requires { h < length self.now.harts }
+        ensures { result ≡ O.origin origins.now (hart_in self.now.harts h).pc }
+    {
+        origins.origin(self.harts.at(h).pc)
+    }
+
+    /// A system call of hart `h`. After want of memory all is as before.
+    #[tactic(auto, unfolding(crate::specs::Steps::called, crate::specs::Steps::call_of))]
+    fn call<O: Origins>(&mut self, origins: &O, h: u32) -> Result<(), NoMemory>
+        requires { h < length self.old.harts }
+        ensures ok { OnOk result (self.new ≡ called (O.origin origins.now) h (call_of (O.origin origins.now) h self.old) self.old) }
         ensures err { OnErr result (self.new ≡ self.old) }
     {
-        let reply = syscall(
+        let clear = self.harts.at(h).clear;
+        let arguments = arguments_of(self.harts.at(h));
+        let Ok(effect) = syscall(
             self.alloc,
-            &mut self.outputs,
-            &self.memory,
+            &mut self.system,
+            &mut self.memory,
             origins,
-            &self.hart.regs,
-        )?;
-        self.reply(origins, reply);
+            h,
+            clear,
+            &arguments,
+        ) else {
+            return Err(NoMemory);
+        };
+        self.system.orderly();
+        self.outcome = finish_call(&mut self.harts, origins, h, &effect);
         Ok(())
     }
 
-    /// What the machine does by the reply of a call.
-    fn reply<O: Origins>(&mut self, origins: &O, reply: Reply)
-        ensures { self.new ≡ by_reply (O.origin origins.now) reply self.old }
-    {
-        match reply {
-            Reply::Answer(value) => {
-                next(&mut self.hart, Reg::new(10).unwrap(), Value::plain(value));
-            }
-            Reply::EndHart => {
-                let code = (self.hart.regs[10].number % 256) as u8;
-                self.hart.advance();
-                self.hart.status = Status::Ended;
-                self.outcome = Some(Outcome::Exit(code));
-            }
-            Reply::LinkUse { .. } => {
-                let pc = origins.origin(self.hart.pc);
-                self.outcome = Some(Outcome::LinkUse { rule: 5, pc });
-            }
-            Reply::OutputFull => self.outcome = Some(Outcome::OutputFull),
-        }
-    }
-
-    /// One instruction. After want of memory all is as before.
+    /// One instruction of hart `h`. After want of memory all is as before.
     #[tactic(auto, unfolding(crate::specs::Steps::after_effect, crate::specs::Steps::by_answer))]
-    fn act<O: Origins>(&mut self, image: &Image, origins: &O, i: &Instr) -> Result<(), NoMemory>
-        requires { HasWord i.now }
-        ensures ok { OnOk result (self.new ≡ after_effect (O.origin origins.now) image.now (effect_of (O.origin origins.now) self.old.memory self.old.hart i.now) self.old) }
+    fn act<O: Origins>(
+        &mut self,
+        image: &Image,
+        origins: &O,
+        h: u32,
+        i: &Instr,
+    ) -> Result<(), NoMemory>
+        requires made { h < length self.old.harts }
+        requires word { HasWord i.now }
+        ensures ok { OnOk result (self.new ≡ after_effect (O.origin origins.now) image.now h (effect_of (O.origin origins.now) self.old.memory (hart_in self.old.harts h) i.now) self.old) }
         ensures err { OnErr result (self.new ≡ self.old) }
     {
-        match act(&mut self.hart, &mut self.memory, origins, i) {
-            Acted::Next | Acted::Stored { .. } => {}
-            Acted::Jump { to, by, link } => self.jump(image, origins, to, by, link),
+        match self.harts.act(h, &mut self.memory, origins, i) {
+            Acted::Next => {}
+            Acted::Stored { block } => self.harts.write(h, block),
+            Acted::Jump { to, by, link } => self.jump(image, origins, h, to, by, link),
             Acted::Call => {
-                let Ok(()) = self.call(origins) else {
+                let Ok(()) = self.call(origins, h) else {
                     return Err(NoMemory);
                 };
             }
             Acted::Trap { cause, value } => {
-                let pc = origins.origin(self.hart.pc);
+                let pc = self.place(origins, h);
                 self.outcome = Some(Outcome::Trap { cause, pc, value });
             }
             Acted::LinkUse { rule } => {
-                let pc = origins.origin(self.hart.pc);
+                let pc = self.place(origins, h);
                 self.outcome = Some(Outcome::LinkUse { rule, pc });
             }
             Acted::NoMemory => return Err(NoMemory),
@@ -186,20 +298,21 @@ impl Machine {
         Ok(())
     }
 
-    /// One step of a live hart on the word that was fetched for it; none is a fetch outside the text. After want of memory all
-    /// is as before.
+    /// What hart `h` does by the word that was fetched for it.
     #[tactic(auto, unfolding(crate::specs::Steps::on_fetched))]
-    pub fn step_fetched<O: Origins>(
+    fn obey<O: Origins>(
         &mut self,
         image: &Image,
         origins: &O,
+        h: u32,
         word: Option<u32>,
     ) -> Result<(), NoMemory>
-        ensures ok { OnOk result (self.new ≡ on_fetched (O.origin origins.now) image.now word self.old) }
+        requires { h < length self.old.harts }
+        ensures ok { OnOk result (self.new ≡ on_fetched (O.origin origins.now) image.now h word self.old) }
         ensures err { OnErr result (self.new ≡ self.old) }
     {
         let Some(word) = word else {
-            let pc = origins.origin(self.hart.pc);
+            let pc = self.place(origins, h);
             self.outcome = Some(Outcome::Trap {
                 cause: 1,
                 pc,
@@ -208,7 +321,7 @@ impl Machine {
             return Ok(());
         };
         let Some(i) = decode(word) else {
-            let pc = origins.origin(self.hart.pc);
+            let pc = self.place(origins, h);
             self.outcome = Some(Outcome::Trap {
                 cause: 2,
                 pc,
@@ -216,37 +329,73 @@ impl Machine {
             });
             return Ok(());
         };
-        self.act(image, origins, &i)
+        self.act(image, origins, h, &i)
     }
 
-    /// Whether the next step can change anything.
-    fn is_running(&self) -> bool
-        ensures { result ≡ (not (is_some self.now.outcome) && is_live self.now.hart.status) }
+    /// Ends the run where no hart can go on. Only where hart `h` can't are the others looked at.
+    #[tactic(auto, unfolding(crate::specs::Steps::settled))]
+    fn settle(&mut self, h: u32)
+        ensures { self.new ≡ settled self.old }
     {
-        self.outcome.is_none() && self.hart.status == Status::Live
+        if self.harts.is_live(h) {
+            return;
+        }
+        if self.outcome.is_none() && self.harts.is_stalled() {
+            self.outcome = Some(Outcome::Stalled);
+        }
     }
 
-    /// One step, and the outcome after it. After an outcome nothing changes, and after want of memory all is as before.
-    #[tactic(auto, unfolding(crate::specs::Steps::original_step, crate::specs::Steps::step_with))]
-    pub fn real_original(&mut self, image: &Image) -> Result<Option<Outcome>, NoMemory>
-        ensures step { OnOk result (self.new ≡ original_step image.now self.old) }
+    /// One step of a live hart on the word that was fetched for it, and the outcome after it; no word is a fetch outside the
+    /// text. After want of memory all is as before.
+    pub fn step_fetched<O: Origins>(
+        &mut self,
+        image: &Image,
+        origins: &O,
+        h: u32,
+        word: Option<u32>,
+    ) -> Result<Option<Outcome>, NoMemory>
+        requires { can_step h self.old ≡ true }
+        ensures step { OnOk result (self.new ≡ settled (on_fetched (O.origin origins.now) image.now h word self.old)) }
         ensures outcome { IfOk result (λ outcome. outcome ≡ self.new.outcome) }
         ensures err { OnErr result (self.new ≡ self.old) }
     {
-        if self.is_running() {
-            let word = image.word(self.hart.pc);
-            self.step_fetched(image, &Same, word)?;
+        let Ok(()) = self.obey(image, origins, h, word) else {
+            return Err(NoMemory);
+        };
+        self.settle(h);
+        Ok(self.outcome)
+    }
+
+    /// Whether hart `h` can make a step.
+    fn can_step(&self, h: u32) -> bool
+        ensures value { result ≡ can_step h self.now }
+        ensures made { result ≡ true → h < length self.now.harts }
+    {
+        self.outcome.is_none() && self.harts.is_live(h)
+    }
+
+    /// One step of hart `h`, and the outcome after it. A hart that waits, has ended or isn't made changes nothing, and
+    /// after an outcome none does. After want of memory all is as before.
+    #[tactic(auto, unfolding(crate::specs::Steps::original_step, crate::specs::Steps::step_with))]
+    pub fn real_original(&mut self, image: &Image, h: u32) -> Result<Option<Outcome>, NoMemory>
+        ensures step { OnOk result (self.new ≡ original_step image.now h self.old) }
+        ensures outcome { IfOk result (λ outcome. outcome ≡ self.new.outcome) }
+        ensures err { OnErr result (self.new ≡ self.old) }
+    {
+        if self.can_step(h) {
+            let word = image.word(self.harts.at(h).pc);
+            return self.step_fetched(image, &Same, h, word);
         }
         Ok(self.outcome)
     }
 
-    /// The run of so many steps. After want of memory some of them are made.
-    pub fn run(&mut self, image: &Image, steps: u32) -> Result<(), NoMemory>
-        ensures ok { OnOk result (self.new ≡ after_steps image.now self.old steps) }
-        ensures err { OnErr result ((n : ℕ) × (n < steps) × (self.new ≡ after_steps image.now self.old n)) }
+    /// So many steps of hart `h`. After want of memory some of them are made.
+    pub fn run(&mut self, image: &Image, h: u32, steps: u32) -> Result<(), NoMemory>
+        ensures ok { OnOk result (self.new ≡ original_run image.now (replicate steps h) self.old) }
+        ensures err { OnErr result ((n : ℕ) × (n < steps) × (self.new ≡ original_run image.now (replicate n h) self.old)) }
     {
         for _step in 0..steps {
-            if self.real_original(image)?.is_some() {
+            if self.real_original(image, h)?.is_some() {
                 return Ok(());
             }
         }

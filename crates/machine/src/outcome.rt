@@ -13,6 +13,10 @@ pub enum Outcome {
     Landing { pc: u64 },
     /// A write would have passed the limit of an output.
     OutputFull,
+    /// There would have been more harts than a run may make.
+    HartsFull,
+    /// A hart hasn't ended, and every such hart waits.
+    Stalled,
     /// The script ended before the guest did.
     Unfinished,
 }

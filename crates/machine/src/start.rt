@@ -1,12 +1,15 @@
 //! What stands before the first step.
-ghost use Rattle.std.specs.Prelude.{◌≡◌, ℕ, ◌+◌, ◌*◌, ◌/◌, ◌<◌, ◌≤◌, length, true, false, OnOk, IfOk, All, codes};
+ghost use Rattle.std.specs.Prelude.{◌≡◌, ℕ, ◌+◌, ◌*◌, ◌/◌, ◌<◌, ◌≤◌, ◌%◌, length, map, true, false, OnOk, IfOk, All, codes};
 ghost use Rattle.finite.specs.Maps.{contains, contains_all};
 ghost use Rattle.image.specs.Picture.{IsPart};
 ghost use Rattle.guest_mem.specs.Memory.{Memory, with_word, word_of, bytes_of};
 ghost use Rattle.machine.specs.Loaded.{IsLoaded};
-ghost use Rattle.machine.specs.Start.{with_bytes, with_part, with_parts, with_slot, with_slots, with_words, first_words, with_stack, start_memory, start_hart};
+ghost use Rattle.guest_sys.specs.State.{pages};
+ghost use Rattle.guest_sys.specs.declared.TheConstants.{MAP_END};
+ghost use Rattle.machine.specs.Start.{highest, end_of, break_of, with_bytes, with_part, with_parts, with_slot, with_slots, with_words, first_words, with_stack, start_memory, start_hart};
 
 use crate::{NAME_AT, STACK_END, STACK_POINTER, STACK_START};
+use finite::search::Spanned;
 use guest_mem::flat::FlatMem;
 use guest_mem::store::GuestStore;
 use guest_mem::words::{Word, WordStore};
@@ -32,6 +35,38 @@ pub fn start_hart(image: &Image) -> Hart
         status: Status::Live,
         clear: 0,
     }
+}
+
+/// Where the break starts: with the page behind the text, the data and the region.
+pub fn break_of(image: &Image) -> u64
+    ensures is { result ≡ break_of image.now }
+    ensures whole { result % 4096 ≡ 0 }
+    ensures low { result ≤ MAP_END }
+{
+    image.kept();
+    let texts = highest_end(image.texts());
+    let parts = highest_end(image.parts());
+    let end = end_of(image.region()).max(texts).max(parts);
+    4096 * ((end + 4095) / 4096)
+}
+
+fn end_of(range: Range) -> u64
+    ensures { result ≡ end_of range }
+{
+    if range.from < range.to { range.to } else { 0 }
+}
+
+/// The highest end of some pieces of an image.
+fn highest_end<T: Spanned>(pieces: &[T]) -> u64
+    requires { All (λ x. T.end x ≤ 0x0800_0000) pieces.now }
+    ensures end { result ≡ highest (map T.end pieces.now) }
+    ensures low { result ≤ 0x0800_0000 }
+{
+    let mut highest = 0;
+    for piece in pieces {
+        highest = piece.end().max(highest);
+    }
+    highest
 }
 
 /// The memory before the first step.

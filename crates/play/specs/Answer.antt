@@ -8,14 +8,16 @@ use Rattle.elf_read.specs.declared.fault.ElfFault.{ElfFault}
 use Rattle.elf_read.specs.declared.fault.ElfFault.TheVariants as elf
 use Rattle.relocs.specs.declared.fault.ImageFault.{ImageFault}
 use Rattle.relocs.specs.declared.fault.ImageFault.TheVariants as image
-use Rattle.machine.specs.declared.outcome.Outcome.TheVariants.{Exit, Trap, LinkUse, Landing, OutputFull, Unfinished}
+use Rattle.machine.specs.declared.outcome.Outcome.TheVariants.{Exit, Trap, LinkUse, Landing, OutputFull, HartsFull, Stalled, Unfinished}
 
 abbrev pub status_of : Ended → ℕ
 status_of (Ran (Exit code)) = code
 status_of Early = 111
 status_of (Ran OutputFull) = 112
+status_of (Ran HartsFull) = 113
 status_of (Ran (Landing pc)) = 114
 status_of (Ran Unfinished) = 115
+status_of (Ran Stalled) = 116
 status_of (Ran (Trap cause pc value)) = 118
 status_of (Ran (LinkUse rule pc)) = 119
 status_of Usage = 120
@@ -57,6 +59,8 @@ image_line e = codes "ocolos: program image " ++ decimal e.0 ++ codes " 0x" ++ d
 abbrev pub line_of : Ended → List ℕ
 line_of (Ran (Exit code)) = codes "ocolos: exit " ++ decimal code ++ codes "\n"
 line_of (Ran OutputFull) = codes "ocolos: output full\n"
+line_of (Ran HartsFull) = codes "ocolos: harts full\n"
+line_of (Ran Stalled) = codes "ocolos: stalled\n"
 line_of (Ran Unfinished) = codes "ocolos: unfinished\n"
 line_of (Ran (Trap cause pc value)) = codes "ocolos: trap " ++ decimal cause ++ codes " at 0x" ++ digits 16 false pc ++ codes " value 0x" ++ digits 16 false value ++ codes "\n"
 line_of (Ran (LinkUse rule pc)) = codes "ocolos: link use " ++ decimal rule ++ codes " at 0x" ++ digits 16 false pc ++ codes "\n"

@@ -1,5 +1,5 @@
 -- What a call decides from its words and its files: the first refusal that holds, or what the run delivers.
-use Rattle.std.specs.Prelude.{◌≡◌, ℕ, List, [], ◌∷◌, ◌++◌, length, ◌-◌, slice_index, ◌==◌, Bool, true, false, Option, Some, None, Result, Ok, Err, nat_lt, if◌then◌else◌}
+use Rattle.std.specs.Prelude.{◌≡◌, ℕ, List, [], ◌∷◌, ◌++◌, length, replicate, ◌-◌, slice_index, ◌==◌, Bool, true, false, Option, Some, None, Result, Ok, Err, nat_lt, if◌then◌else◌}
 use Rattle.oc_base.specs.declared.range.Range.{Range}
 use Rattle.image.specs.Picture.{Picture}
 use Rattle.elf_read.specs.declared.elf.Elf.{Elf}
@@ -16,7 +16,7 @@ use Rattle.machine.specs.declared.outcome.Outcome.{Outcome}
 use Rattle.machine.specs.declared.outcome.Outcome.TheVariants.{Unfinished}
 use Rattle.machine.specs.States.{State}
 use Rattle.machine.specs.Start.{start_of}
-use Rattle.machine.specs.Steps.{after_steps}
+use Rattle.machine.specs.Steps.{original_run}
 use Rattle.play.specs.declared.delivery.Delivery.{Delivery}
 use Rattle.play.specs.declared.TheConstants.{PROGRAM_LIMIT, SCRIPT_LIMIT}
 use Rattle.play.specs.Script.{steps_in}
@@ -47,11 +47,11 @@ outcome_of (Some outcome) = outcome
 outcome_of None = Unfinished
 
 abbrev pub delivery_of : State → Delivery
-delivery_of s = record { outcome = outcome_of s.outcome; out = s.outputs.one; err = closed s.outputs.two }
+delivery_of s = record { outcome = outcome_of s.outcome; out = s.system.out; err = closed s.system.err }
 
--- the run of an image for the script's steps, where the script has the form of the first path
+-- the run of an image without input for the script's steps of hart 0, where the script has the form of the first path
 abbrev pub delivered : Picture → Option ℕ → Result Delivery Ended
-delivered image (Some steps) = Ok (delivery_of (after_steps image (start_of image) steps))
+delivered image (Some steps) = Ok (delivery_of (original_run image (replicate steps 0) (start_of image [])))
 delivered image None = Err Early
 
 unfoldable pub run_of : Picture → List ℕ → Result Delivery Ended

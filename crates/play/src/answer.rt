@@ -60,8 +60,10 @@ pub fn status(ended: &Ended) -> u8
     match ended {
         Ended::Ran(Outcome::Exit(code)) => *code,
         Ended::Ran(Outcome::OutputFull) => 112,
+        Ended::Ran(Outcome::HartsFull) => 113,
         Ended::Ran(Outcome::Landing { .. }) => 114,
         Ended::Ran(Outcome::Unfinished) => 115,
+        Ended::Ran(Outcome::Stalled) => 116,
         Ended::Ran(Outcome::Trap { .. }) => 118,
         Ended::Ran(Outcome::LinkUse { .. }) => 119,
         Ended::Early => 111,
@@ -171,6 +173,8 @@ fn outcome_line(alloc: Global, outcome: Outcome) -> Result<String, AllocError>
         Outcome::LinkUse { rule, pc } => link_use_line(alloc, rule, pc),
         Outcome::Landing { pc } => landing_line(alloc, pc),
         Outcome::OutputFull => String::from_str(alloc, "ocolos: output full\n"),
+        Outcome::HartsFull => String::from_str(alloc, "ocolos: harts full\n"),
+        Outcome::Stalled => String::from_str(alloc, "ocolos: stalled\n"),
         Outcome::Unfinished => String::from_str(alloc, "ocolos: unfinished\n"),
     }
 }

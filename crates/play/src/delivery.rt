@@ -1,17 +1,16 @@
 //! What the bytes of a program and a script deliver.
 
-ghost use Rattle.std.specs.Prelude.{◌≡◌, Ok, Err, IfOk, IfErr};
+ghost use Rattle.std.specs.Prelude.{◌≡◌, [], Ok, Err, IfOk, IfErr, replicate};
 ghost use Rattle.play.specs.Cause.{Reason, Because};
 ghost use Rattle.play.specs.Decision.{Builds, Refuses, Delivers, closed, delivery_of, outcome_of, run_of};
 ghost use Rattle.machine.specs.Start.{start_of};
-ghost use Rattle.machine.specs.Steps.{after_steps};
+ghost use Rattle.machine.specs.Steps.{original_run};
 
 use crate::answer::{Ended, ProgramFault};
 use crate::script::steps_in;
 use elf_read::fault::ElfFault;
 use elf_read::read::read_elf;
 use image::picture::Image;
-use machine::calls::Output;
 use machine::machine::Machine;
 use machine::outcome::Outcome;
 use oc_base::fault::NoMemory;
@@ -89,12 +88,12 @@ fn run_image(alloc: Global, image: &Image, script: &[u8]) -> Result<Delivery, En
     Ok(delivery)
 }
 
-// The machine after so many steps.
+// The machine after so many steps of hart 0.
 fn run_steps(alloc: Global, image: &Image, steps: u32) -> Result<Machine, NoMemory>
-    ensures { IfOk result (λ m. m ≡ after_steps image.now (start_of image.now) steps) }
+    ensures { IfOk result (λ m. m ≡ original_run image.now (replicate steps 0) (start_of image.now [])) }
 {
-    let mut machine = Machine::start(alloc, image)?;
-    machine.run(image, steps)?;
+    let mut machine = Machine::start(alloc, image, Vec::new(alloc))?;
+    machine.run(image, 0, steps)?;
     Ok(machine)
 }
 
@@ -102,8 +101,8 @@ fn run_steps(alloc: Global, image: &Image, steps: u32) -> Result<Machine, NoMemo
 fn delivery_of(alloc: Global, machine: &Machine) -> Result<Delivery, NoMemory>
     ensures { IfOk result (λ d. d ≡ delivery_of machine.now) }
 {
-    let out = Items::from_slice(alloc, machine.output(Output::One))?;
-    let err = Items::from_slice(alloc, machine.output(Output::Two))?;
+    let out = Items::from_slice(alloc, machine.output(1))?;
+    let err = Items::from_slice(alloc, machine.output(2))?;
     Ok(Delivery {
         outcome: outcome_of(machine.outcome()),
         out,

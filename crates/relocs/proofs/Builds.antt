@@ -1,15 +1,15 @@
 -- What an executable without a fault gives its image.
-use Rattle.std.proofs.Common.{◌≡◌, ℕ, zero, suc, ◌+◌, ◌-◌, ◌*◌, ◌/◌, ◌%◌, ◌^◌, ◌<◌, ◌≤◌, Bool, true, false, cond, leb, ltb, min, max, List, [], ◌∷◌, ◌++◌, length, map, take, drop, get_or, Option, Some, None, ◌⊎◌, inl, inr, refl, sym, ap, subst, ◌∙◌, arith}
-use Rattle.std.specs.Prelude.{◌&&◌, ◌||◌, ◌==◌, not, is_some, IsSome, Contains}
-use Rattle.std.specs.List.{All, AllPairs, Any, cons_option, filter, filter_map, find, flat_map, fold, list_any, range_with_len, reduce, slice_get}
+use Rattle.std.proofs.Common.{◌≡◌, ℕ, zero, suc, ◌+◌, ◌-◌, ◌/◌, ◌%◌, ◌^◌, ◌<◌, ◌≤◌, Bool, true, false, cond, leb, ltb, min, max, List, [], ◌∷◌, ◌++◌, length, map, get_or, Option, Some, None, ◌⊎◌, inl, inr, refl, sym, ap, subst, ◌∙◌, arith}
+use Rattle.std.specs.Prelude.{◌&&◌, ◌||◌, ◌==◌, not, is_some, IsSome}
+use Rattle.std.specs.List.{All, AllPairs, Any, cons_option, filter, filter_map, find, flat_map, fold, list_any, range_with_len, reduce}
 use Rattle.std.specs.List.Sorted.{IsNonDecreasingBy, IsPermutation}
-use Rattle.std.specs.Option.{option_map, option_map_or, option_and_then}
-use Rattle.std.proofs.lemmas.Bool.{ltb-false, ltb-true, leb-true, leb-false, le-leb, lt-ltb, and_cases, and_parts, and_from, eqb-true, cases_lt, cases_order}
+use Rattle.std.specs.Option.{option_map_or, option_and_then}
+use Rattle.std.proofs.lemmas.Bool.{ltb-false, ltb-true, leb-true, leb-false, and_cases, and_parts, eqb-true, cases_lt, cases_order}
 use Rattle.std.proofs.lemmas.Bool.Decides.{nat_tests}
 use Rattle.std.proofs.lemmas.Option.{slice_get-get_or}
 use Rattle.std.proofs.lemmas.List.{get_or-map, get_or_default, length-map}
 use Rattle.std.proofs.lemmas.List.Elements.{All-map, All-tail, All-append, All-nil, filter_passes}
-use Rattle.std.proofs.lemmas.List.Folds.{list_any_at, list_any_none, Any-from_list_any}
+use Rattle.std.proofs.lemmas.List.Folds.{Any-from_list_any}
 use Rattle.std.proofs.lemmas.List.FromFn.{get_or-range_with_len, length-range_with_len}
 use Rattle.std.proofs.lemmas.List.Sorted.{All-permutation, list_any-IsPermutation}
 use Rattle.std.proofs.lemmas.Map.Keys.{IsDistinct-from_apart}
@@ -17,7 +17,6 @@ use Rattle.oc_base.specs.declared.range.Range.{Range}
 use Rattle.finite.specs.Lists.{Lists}
 use Rattle.finite.proofs.Finding.{find_none, any_none, any_find}
 use Rattle.finite.proofs.Arranged.{clash, rise_sorted, keys_rise}
-use Rattle.finite.proofs.Searching.{tail_pairs}
 use Rattle.elf_read.specs.declared.elf.Elf.{Elf}
 use Rattle.elf_read.specs.declared.elf.Section.{Section}
 use Rattle.elf_read.specs.declared.elf.Segment.{Segment}
@@ -30,12 +29,12 @@ use Rattle.image.specs.declared.ranges.Part.{Part}
 use Rattle.image.specs.declared.ranges.TextRange.{TextRange}
 use Rattle.image.specs.Texts.{text_start, text_end, covers, text_at, text_words, word_in, word_at, aim_of, targets}
 use Rattle.image.specs.Jumps.{direct_target}
-use Rattle.image.specs.Picture.{IsText, IsPart, IsFunc, IsFree, IsPaged}
-use Rattle.relocs.specs.Sections.{text_sections, section_end, file_end, has_bytes, is_entry_outside, covers as section_covers}
+use Rattle.image.specs.Picture.{IsText, IsFunc, IsFree, IsPaged}
+use Rattle.relocs.specs.Sections.{text_sections, section_end, file_end, has_bytes, covers as section_covers}
 use Rattle.relocs.specs.Regions.{default_region, is_between, in_segment, follows, is_taken, first_taken, is_aimed, address_of, least_of, least_aimed}
 use Rattle.relocs.specs.Functions.{holds, is_code, is_function, symbol_end, end_at, func_entry}
 use Rattle.relocs.specs.Named.{aim_at, is_named, aim_entry}
-use Rattle.relocs.specs.Built.{text_of, texts_of, parts_in, parts_of, has_headers, IsFaultless}
+use Rattle.relocs.specs.Built.{text_of, texts_of, parts_in, has_headers, IsFaultless}
 use Rattle.relocs.proofs.PartLemmas.{Cuts, InSegment, all_parts, parts_inside}
 use Rattle.relocs.proofs.TextLemmas.{IsSection, all_sections, all_fit, texts_apart, text_start_is, text_end_is}
 

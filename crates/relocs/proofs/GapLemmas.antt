@@ -1,15 +1,11 @@
 -- The pieces that text ranges leave.
-use Rattle.std.proofs.Common.{◌≡◌, ℕ, zero, suc, ◌+◌, ◌<◌, ◌≤◌, Bool, true, false, cond, leb, ltb, List, [], ◌∷◌, ◌++◌, length, map, take, drop, get_or, ◌⊎◌, inl, inr, refl, sym, ap, ◌∙◌, arith}
-use Rattle.std.specs.Prelude.{◌&&◌, ◌||◌}
-use Rattle.std.specs.List.{All, AllPairs, AllWithin, IsDistinct, list_any}
-use Rattle.std.proofs.lemmas.Bool.{le-leb, lt-leb, leb-true, ltb-true, and_left, and_right, and_parts}
+use Rattle.std.proofs.Common.{◌≡◌, ℕ, zero, suc, ◌<◌, ◌≤◌, Bool, true, false, List, [], ◌∷◌, ◌++◌, length, map, take, drop, refl, sym, ap, ◌∙◌, arith}
+use Rattle.std.specs.List.{All, AllWithin}
+use Rattle.std.proofs.lemmas.Bool.{le-leb, lt-leb, and_left, and_right}
 use Rattle.std.proofs.lemmas.List.{map-append, append_assoc}
-use Rattle.std.proofs.lemmas.List.Elements.{All-tail, All-append, All-nil}
-use Rattle.std.proofs.lemmas.List.Folds.{list_any_none}
-use Rattle.finite.proofs.Arranged.{clash, no_clash, IsApart, apart_append}
-use Rattle.image.specs.declared.ranges.Part.{Part}
+use Rattle.std.proofs.lemmas.List.Elements.{All-tail}
 use Rattle.image.specs.declared.ranges.TextRange.{TextRange}
-use Rattle.image.specs.Texts.{text_start, text_end}
+use Rattle.image.specs.Texts.{text_end}
 use Rattle.image.specs.Picture.{IsText}
 use Rattle.relocs.specs.Built.{piece, is_within, gaps}
 

@@ -10,3 +10,5 @@ pub mod PartLemmas
 pub mod TextLemmas
 pub mod Builds
 pub mod OneImage
+pub mod HolderLemmas
+pub mod OutsideLemmas

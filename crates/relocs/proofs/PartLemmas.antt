@@ -1,6 +1,5 @@
 -- Parts fit, lie apart, and lie apart from the text ranges.
-use Rattle.std.proofs.Common.{◌≡◌, ℕ, zero, suc, ◌+◌, ◌-◌, ◌<◌, ◌≤◌, Bool, true, false, cond, leb, ltb, min, List, [], ◌∷◌, ◌++◌, length, map, take, drop, get_or, ◌⊎◌, inl, inr, refl, sym, ap, ◌∙◌, arith}
-use Rattle.std.specs.Prelude.{◌&&◌, ◌||◌}
+use Rattle.std.proofs.Common.{◌≡◌, ℕ, zero, suc, ◌-◌, ◌<◌, ◌≤◌, Bool, true, false, cond, leb, ltb, List, [], ◌∷◌, ◌++◌, length, drop, get_or, ◌⊎◌, inl, inr, refl, arith}
 use Rattle.std.specs.List.{All, AllPairs, flat_map, list_any}
 use Rattle.std.proofs.lemmas.Bool.{leb-true, ltb-true, le-leb, and_parts, and_from}
 use Rattle.std.proofs.lemmas.List.{length-take}
@@ -12,10 +11,10 @@ use Rattle.elf_read.specs.declared.elf.Segment.{Segment}
 use Rattle.elf_read.specs.Whole.{IsSegment, AreApart, segment_end}
 use Rattle.image.specs.declared.ranges.Part.{Part}
 use Rattle.image.specs.declared.ranges.TextRange.{TextRange}
-use Rattle.image.specs.Texts.{text_start, text_end}
+use Rattle.image.specs.Texts.{text_end}
 use Rattle.image.specs.Aims.{part_start, part_end}
-use Rattle.image.specs.Picture.{IsText, IsPart, LiesApart}
-use Rattle.relocs.specs.Built.{piece, is_within, gaps, part_of, parts_in, parts_of}
+use Rattle.image.specs.Picture.{IsPart, LiesApart}
+use Rattle.relocs.specs.Built.{piece, is_within, gaps, part_of, parts_in}
 
 abbrev pub Rise : List TextRange → Type 0
 Rise ts = AllPairs (λ s t. text_end s ≤ t.from) ts

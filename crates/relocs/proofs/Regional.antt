@@ -1,7 +1,7 @@
 -- The region: one range, one word or one text range more.
-use Rattle.std.proofs.Common.{◌≡◌, ℕ, zero, suc, ◌+◌, ◌*◌, ◌-◌, ◌^◌, ◌<◌, ◌≤◌, Bool, true, false, cond, leb, ltb, min, max, List, [], ◌∷◌, ◌++◌, length, map, take, drop, get_or, Option, Some, None, ◌⊎◌, inl, inr, refl, sym, ap, ◌∙◌, arith}
-use Rattle.std.specs.Prelude.{◌&&◌, ◌||◌, nat_le, nat_lt}
-use Rattle.std.specs.List.{filter, find, flat_map, fold, list_any, range_with_len, reduce}
+use Rattle.std.proofs.Common.{◌≡◌, ℕ, ◌+◌, ◌*◌, ◌-◌, ◌^◌, ◌<◌, ◌≤◌, Bool, true, false, cond, min, max, List, [], ◌∷◌, ◌++◌, length, map, take, drop, get_or, Option, Some, None, ◌⊎◌, inl, inr, refl, sym, ap, ◌∙◌, arith}
+use Rattle.std.specs.Prelude.{◌||◌, nat_le, nat_lt}
+use Rattle.std.specs.List.{filter, flat_map, fold, list_any, reduce}
 use Rattle.std.proofs.lemmas.Bool.{cases_lt, or_cases, or_left, or_right, and_parts, and_from, leb-true, ltb-true, le-leb, lt-ltb}
 use Rattle.std.proofs.lemmas.Bool.Decides.{nat_tests}
 use Rattle.std.proofs.lemmas.List.{map_more, drop_more, drop_all, take_more, append-nil}
@@ -16,8 +16,7 @@ use Rattle.elf_read.specs.declared.elf.Segment.{Segment}
 use Rattle.elf_read.specs.Whole.{segment_end}
 use Rattle.image.specs.declared.ranges.TextRange.{TextRange}
 use Rattle.image.specs.Texts.{text_words, words_from}
-use Rattle.relocs.specs.Sections.{section_end}
-use Rattle.relocs.specs.Regions.{highest_end, is_between, in_segment, follows, is_taken, first_taken, is_aimed, address_of, least_of, least_aimed, segment_range, after_section, taken_ranges, in_range, Shares, lesser}
+use Rattle.relocs.specs.Regions.{highest_end, is_between, in_segment, follows, is_taken, first_taken, is_aimed, address_of, least_of, segment_range, after_section, taken_ranges, in_range, Shares, lesser}
 
 pub highest_more : (gs : List Segment) (i : ℕ) (d : Segment) → i < length gs → highest_end (take (i + 1) gs) ≡ max (highest_end (take i gs)) (segment_end (get_or gs i d))
 unfolding highest_end

@@ -1,28 +1,26 @@
 -- Text sections without a fault are text ranges that fit and lie apart.
-use Rattle.std.proofs.Common.{◌≡◌, ℕ, zero, suc, ◌+◌, ◌-◌, ◌*◌, ◌/◌, ◌%◌, ◌<◌, ◌≤◌, Bool, true, false, cond, leb, ltb, eqb, List, [], ◌∷◌, length, map, take, get_or, Option, Some, None, ◌⊎◌, inl, inr, refl, sym, ap, ◌∙◌, arith}
-use Rattle.std.specs.Prelude.{◌&&◌, ◌||◌, ◌==◌, not, IsSome, is_some, bit_and}
-use Rattle.std.specs.List.{All, AllPairs, filter, find, list_any, range_with_len, slice_get}
-use Rattle.std.specs.List.Sorted.{IsPermutation}
-use Rattle.std.specs.Option.{option_map, option_map_or, option_and_then}
-use Rattle.std.proofs.lemmas.Bool.{ltb-false, ltb-true, leb-true, le-leb, lt-ltb, and_cases, and_parts, and_from, eqb-true, eq-eqb}
+use Rattle.std.proofs.Common.{◌≡◌, ℕ, ◌+◌, ◌-◌, ◌*◌, ◌/◌, ◌%◌, ◌<◌, ◌≤◌, Bool, true, false, leb, ltb, List, [], ◌∷◌, length, map, take, get_or, Option, Some, None, refl, sym, ap, ◌∙◌, arith}
+use Rattle.std.specs.Prelude.{◌&&◌, ◌||◌, ◌==◌, not, is_some, bit_and}
+use Rattle.std.specs.List.{All, AllPairs, find, list_any, range_with_len}
+use Rattle.std.specs.Option.{option_map_or}
+use Rattle.std.proofs.lemmas.Bool.{ltb-true, leb-true, and_parts, eqb-true}
 use Rattle.std.proofs.lemmas.Bool.Decides.{nat_tests}
 use Rattle.std.proofs.lemmas.Option.{slice_get-get_or}
 use Rattle.std.proofs.lemmas.List.{get_or-map, length-map, length-take-le, get_or-take}
 use Rattle.std.proofs.lemmas.List.Elements.{All-map, All-tail, filter_passes}
-use Rattle.std.proofs.lemmas.List.Folds.{list_any_at, list_any_none}
 use Rattle.std.proofs.lemmas.List.FromFn.{get_or-range_with_len, length-range_with_len, length-map-range_with_len}
 use Rattle.finite.proofs.Finding.{find_none, any_none, none_by_map, any_find}
-use Rattle.finite.proofs.Arranged.{clash, no_clash, IsApart}
+use Rattle.finite.proofs.Arranged.{clash}
 use Rattle.elf_read.specs.declared.elf.Elf.{Elf}
 use Rattle.elf_read.specs.declared.elf.Section.{Section}
 use Rattle.elf_read.specs.declared.elf.Segment.{Segment}
 use Rattle.elf_read.specs.Fields.{u32_at}
 use Rattle.elf_read.specs.Tables.{table}
-use Rattle.elf_read.specs.Whole.{IsSegment, segment_end}
+use Rattle.elf_read.specs.Whole.{IsSegment}
 use Rattle.image.specs.declared.ranges.TextRange.{TextRange}
-use Rattle.image.specs.Texts.{text_start, text_end, covers, text_at, word_in, word_at}
+use Rattle.image.specs.Texts.{text_start, text_end}
 use Rattle.image.specs.Picture.{IsText}
-use Rattle.relocs.specs.Sections.{is_text, text_sections, section_end, section_start, file_end, has_bytes, overlap, is_misaligned, first_misaligned, is_outside, is_outside_at, first_outside, start_at, is_entry_outside}
+use Rattle.relocs.specs.Sections.{is_text, text_sections, section_end, section_start, file_end, has_bytes, overlap, is_misaligned, first_misaligned, is_outside, is_outside_at, first_outside, start_at}
 use Rattle.relocs.specs.Built.{words_at, text_of, texts_of}
 
 both_fail : (a b : Bool) → (a || b) ≡ false → (a ≡ false) × (b ≡ false)
@@ -33,7 +31,7 @@ not_false : (b : Bool) → not b ≡ false → b ≡ true
 not_false true e = refl
 not_false false e = absurd cc
 
-sized : (s : Section) → is_text s ≡ true → 0 < s.size
+pub sized : (s : Section) → is_text s ≡ true → 0 < s.size
 sized s e =
     let a = and_parts (s.kind == 1) _ e in
     let b = and_parts (not (bit_and s.flags 2 == 0)) _ a.1 in
@@ -81,7 +79,7 @@ held_case true s g gs is fit e h =
 held_case false s g gs is fit e h = h e
 
 -- a held section lies in the guest's space
-held_fits : (s : Section) (gs : List Segment) → All IsSegment gs → list_any (has_bytes s.at (section_end s)) gs ≡ true → (0x1000 ≤ s.at) × (section_end s ≤ 0x08000000)
+pub held_fits : (s : Section) (gs : List Segment) → All IsSegment gs → list_any (has_bytes s.at (section_end s)) gs ≡ true → (0x1000 ≤ s.at) × (section_end s ≤ 0x08000000)
 held_fits s [] fit e = absurd cc
 held_fits s (g ∷ gs) fit e = held_case (has_bytes s.at (section_end s) g) s g gs refl (fit 0 g (omega arith)) e (held_fits s gs (All-tail IsSegment g gs fit))
 
@@ -150,7 +148,7 @@ texts_apart segments texts sections none i j d lt within =
     rw (get_or-map (text_of segments) texts i z d i_in, get_or-map (text_of segments) texts j z d j_in) (clash_is segments (get_or texts i z) (get_or texts j z) (sections i z i_in) (sections j z j_in) (sections_apart segments texts none i j z lt j_in))
 
 -- the text sections of a file are text
-are_text : (elf : Elf) → All (λ s. is_text s ≡ true) (text_sections elf)
+pub are_text : (elf : Elf) → All (λ s. is_text s ≡ true) (text_sections elf)
 unfolding text_sections
 are_text elf = filter_passes is_text elf.sections
 
@@ -174,3 +172,7 @@ pub all_fit_in : (elf : Elf) (segments : List Segment) (sections : List Section)
 all_fit_in elf segments sections same is fit aligned inside =
     let text : All (λ s. is_text s ≡ true) sections = rw is (are_text elf) in
     texts_fit segments sections (rw same fit) (each_section segments sections text aligned inside)
+
+-- the text sections of a file have bytes
+pub all_sized : (elf : Elf) (sections : List Section) → sections ≡ text_sections elf → All (λ s. 0 < s.size) sections
+all_sized elf sections is = rw is (λ i d lt. sized (get_or (text_sections elf) i d) (are_text elf i d lt))

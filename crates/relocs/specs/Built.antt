@@ -1,5 +1,5 @@
 -- The faults of an executable and a region, in their order, and the image of one without a fault.
-use Rattle.std.specs.Prelude.{◌≡◌, ℕ, ◌+◌, ◌-◌, ◌*◌, ◌/◌, ◌<◌, ◌≤◌, Bool, false, not, ◌==◌, ◌&&◌, nat_le, nat_lt, bit_and, List, [], ◌∷◌, ◌++◌, length, map, take, drop, find, AllPairs, Option, Some, None, if◌then◌else◌}
+use Rattle.std.specs.Prelude.{◌≡◌, ℕ, ◌+◌, ◌-◌, ◌*◌, ◌/◌, ◌<◌, Bool, false, not, ◌==◌, ◌&&◌, nat_le, nat_lt, bit_and, List, [], ◌∷◌, ◌++◌, length, map, take, drop, find, AllPairs, Option, None, if◌then◌else◌}
 use Rattle.std.specs.List.{flat_map}
 use Rattle.std.specs.List.Sorted.{IsPermutation}
 use Rattle.std.specs.Option.{option_map, option_map_or}
@@ -19,7 +19,7 @@ use Rattle.image.specs.Aims.{part_start, site_at, pair_at, slot_at}
 use Rattle.image.specs.Picture.{Picture}
 use Rattle.relocs.specs.declared.fault.ImageFault.{ImageFault}
 use Rattle.relocs.specs.declared.fault.ImageFault.TheVariants.{TextMisaligned, TextOutside, EntryOutside, RegionOverlap, RegionAimed}
-use Rattle.relocs.specs.Sections.{text_sections, section_end, has_bytes, first_misaligned, first_outside, is_entry_outside}
+use Rattle.relocs.specs.Sections.{text_sections, has_bytes, first_misaligned, first_outside, is_entry_outside}
 use Rattle.relocs.specs.Regions.{first_taken, least_aimed}
 use Rattle.relocs.specs.Functions.{end_at, func_entry}
 use Rattle.relocs.specs.Named.{aim_at, aim_entry, is_call, is_far, is_stored}

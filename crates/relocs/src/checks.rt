@@ -6,6 +6,7 @@ ghost use Rattle.elf_read.specs.Whole.{IsWhole};
 ghost use Rattle.relocs.specs.Built.{texts_of, fault_of, IsFaultless};
 
 use crate::fault::ImageFault;
+use crate::holders::index_of;
 use crate::region::{first_taken, least_aimed};
 use crate::sections::{first_misaligned, first_outside, is_entry_outside, text_sections};
 use crate::texts::texts_of;
@@ -30,7 +31,8 @@ pub fn checked_texts(alloc: Global, elf: &Elf, region: Range) -> Result<Vec<Text
     if let Some(at) = first_misaligned(sections) {
         return Err(ImageFault::TextMisaligned(at));
     }
-    if let Some(at) = first_outside(segments, sections) {
+    let holders = index_of(alloc, segments)?;
+    if let Some(at) = first_outside(alloc, &holders, sections)? {
         return Err(ImageFault::TextOutside(at));
     }
     if is_entry_outside(sections, elf.entry) {
@@ -39,7 +41,7 @@ pub fn checked_texts(alloc: Global, elf: &Elf, region: Range) -> Result<Vec<Text
     if let Some(at) = first_taken(alloc, segments, sections, region)? {
         return Err(ImageFault::RegionOverlap(at));
     }
-    let texts = texts_of(alloc, segments, sections)?;
+    let texts = texts_of(alloc, &holders, sections)?;
     if let Some(at) = least_aimed(texts.as_slice(), region) {
         return Err(ImageFault::RegionAimed(at));
     }

@@ -7,6 +7,7 @@ pub mod checks;
 pub mod cover;
 pub mod fault;
 pub mod functions;
+pub mod holders;
 pub mod jumps;
 pub mod one;
 pub mod parts;

@@ -1,10 +1,14 @@
 //! Text sections, and what can be wrong with them.
 
-ghost use Rattle.std.specs.Prelude.{◌≡◌, ◌+◌, ◌<◌, ◌==◌, ◌&&◌, length, filter, find, position, IfOk, IfSome};
-ghost use Rattle.std.specs.List.{list_any, range_with_len};
-ghost use Rattle.relocs.specs.Sections.{is_text, text_sections, section_end, has_bytes, overlap, is_misaligned, first_misaligned, is_outside, is_outside_at, first_outside, start_at, covers, is_entry_outside};
+ghost use Rattle.std.specs.Prelude.{◌≡◌, ◌<◌, ◌++◌, ◌∷◌, [], List, All, false, IfOk};
+ghost use Rattle.std.specs.List.{list_any};
+ghost use Rattle.elf_read.specs.declared.elf.Section.{Section as SectionData};
+ghost use Rattle.relocs.specs.Sections.{is_text, text_sections, first_misaligned, is_outside, first_outside, covers, is_entry_outside};
+ghost use Rattle.relocs.specs.Spans.{AreSpansOf};
 
-use elf_read::elf::{Elf, Section, Segment};
+use crate::holders::{Holders, is_held};
+use elf_read::elf::{Elf, Section};
+use finite::spans::Spans;
 use oc_base::fault::NoMemory;
 use std::alloc::Global;
 
@@ -40,63 +44,40 @@ pub fn first_misaligned(texts: &[Section]) -> Option<u64>
         .map(|s| s.at)
 }
 
-/// Whether the file has all bytes of a range of addresses in a segment.
-pub fn has_bytes(g: &Segment, from: u64, size: u64) -> bool
-    ensures { result ≡ has_bytes from (from + size) g.now }
+/// Whether a text section is outside after others. One that isn't joins them.
+#[tactic(auto, using(crate::proofs::OutsideLemmas::overlaps_meet))]
+fn is_outside(spans: &mut Spans, holders: &Holders, s: &Section) -> Result<bool, NoMemory>
+    requires { 0 < s.now.size }
+    ensures { IfOk result (λ out. (earlier : List SectionData) → All (λ e. 0 < e.size) earlier → AreSpansOf earlier spans.old → (out ≡ is_outside holders.now.segments.now earlier s.now) × (out ≡ false → AreSpansOf (earlier ++ s.now ∷ []) spans.new)) }
 {
-    let to = from as u128 + size as u128;
-    g.at <= from && to <= g.at as u128 + g.bytes.len() as u128
-}
-
-fn is_held(segments: &[Segment], s: &Section) -> bool
-    ensures { result ≡ list_any (has_bytes s.now.at (section_end s.now)) segments.now }
-{
-    segments.iter().any(|g| has_bytes(g, s.at, s.size))
-}
-
-fn overlap(a: &Section, b: &Section) -> bool
-    ensures { result ≡ overlap a.now b.now }
-{
-    let a_end = a.at as u128 + a.size as u128;
-    let b_end = b.at as u128 + b.size as u128;
-    (a.at as u128) < b_end && (b.at as u128) < a_end
-}
-
-fn overlaps_one(earlier: &[Section], s: &Section) -> bool
-    ensures { result ≡ list_any (overlap s.now) earlier.now }
-{
-    earlier.iter().any(|e| overlap(s, e))
-}
-
-fn is_outside(segments: &[Segment], earlier: &[Section], s: &Section) -> bool
-    ensures { result ≡ is_outside segments.now earlier.now s.now }
-{
-    !is_held(segments, s) || overlaps_one(earlier, s)
-}
-
-fn is_outside_at(segments: &[Segment], texts: &[Section], i: usize) -> bool
-    ensures { result ≡ is_outside_at segments.now texts.now i }
-{
-    match texts.get(i) {
-        Some(s) => is_outside(segments, &texts[..i], s),
-        None => false,
+    if !is_held(holders, s.at, s.size) {
+        return Ok(true);
     }
-}
-
-fn place_outside(segments: &[Segment], texts: &[Section]) -> Option<usize>
-    ensures first { result ≡ find (is_outside_at segments.now texts.now) (range_with_len 0 (length texts.now)) }
-    ensures within { IfSome result (λ i. i < length texts.now) }
-{
-    (0..texts.len()).find(|i| is_outside_at(segments, texts, *i))
+    let last = s.at + (s.size - 1);
+    if spans.meet(s.at, last) {
+        return Ok(true);
+    }
+    spans.insert(s.at, last)?;
+    Ok(false)
 }
 
 /// The address of the first text section that no segment's file part holds, or that shares an address with an earlier one.
-#[tactic(auto, unfolding(crate::specs::Sections::first_outside))]
-pub fn first_outside(segments: &[Segment], texts: &[Section]) -> Option<u64>
-    ensures { result ≡ first_outside segments.now texts.now }
+pub fn first_outside(
+    alloc: Global,
+    holders: &Holders,
+    texts: &[Section],
+) -> Result<Option<u64>, NoMemory>
+    requires { All (λ s. 0 < s.size) texts.now }
+    ensures { IfOk result (λ at. at ≡ first_outside holders.now.segments.now texts.now) }
 {
-    let i = place_outside(segments, texts)?;
-    Some(texts[i].at)
+    let mut spans = Spans::new(alloc);
+    for i in 0..texts.len() {
+        let s = texts[i];
+        if is_outside(&mut spans, holders, &s)? {
+            return Ok(Some(s.at));
+        }
+    }
+    Ok(None)
 }
 
 fn covers(s: &Section, at: u64) -> bool

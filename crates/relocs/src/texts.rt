@@ -1,16 +1,14 @@
 //! Text ranges, from the bytes of segments.
 
-ghost use Rattle.std.specs.Prelude.{◌≡◌, ◌+◌, ◌*◌, ◌/◌, ◌%◌, ◌≤◌, ◌-◌, length, map, find, IfOk, IfSome};
+ghost use Rattle.std.specs.Prelude.{◌≡◌, ◌+◌, ◌*◌, ◌/◌, ◌%◌, ◌<◌, ◌≤◌, ◌-◌, length, map, All, IfOk};
 ghost use Rattle.std.specs.List.Sorted.{IsNonDecreasingBy, IsPermutation};
-ghost use Rattle.std.specs.Option.{option_copied};
 ghost use Rattle.elf_read.specs.Fields.{u32_at};
 ghost use Rattle.elf_read.specs.Tables.{table};
 ghost use Rattle.image.specs.Texts.{text_start};
-ghost use Rattle.relocs.specs.Sections.{has_bytes};
 ghost use Rattle.relocs.specs.Built.{words_at, text_of};
 
-use crate::sections::has_bytes;
-use elf_read::elf::{Section, Segment};
+use crate::holders::{Holders, holder};
+use elf_read::elf::Section;
 use elf_read::fields::u32_at;
 use image::ranges::TextRange;
 use oc_base::fault::NoMemory;
@@ -35,20 +33,13 @@ fn read_words(
     Ok(Items::from_vec(words))
 }
 
-fn holder(segments: &[Segment], from: u64, size: u64) -> Option<&Segment>
-    ensures first { option_copied result ≡ find (has_bytes from (from + size)) segments.now }
-    ensures from { IfSome result (λ g. g.now.at ≤ from) }
-    ensures to { IfSome result (λ g. from + size ≤ g.now.at + length g.now.bytes) }
-{
-    segments.iter().find(|g| has_bytes(g, from, size))
-}
-
 /// The words of a range of addresses.
 #[tactic(auto, unfolding(crate::specs::Built::words_at))]
-fn words_at(alloc: Global, segments: &[Segment], at: u64, size: u64) -> Result<Items<u32>, NoMemory>
-    ensures { IfOk result (λ v. v ≡ words_at segments.now at size) }
+fn words_at(alloc: Global, holders: &Holders, at: u64, size: u64) -> Result<Items<u32>, NoMemory>
+    requires { 0 < size }
+    ensures { IfOk result (λ v. v ≡ words_at holders.now.segments.now at size) }
 {
-    let Some(g) = holder(segments, at, size) else {
+    let Some(g) = holder(holders, at, size) else {
         return Ok(Items::new(alloc));
     };
     let from = (at - g.at) as usize;
@@ -57,26 +48,28 @@ fn words_at(alloc: Global, segments: &[Segment], at: u64, size: u64) -> Result<I
 }
 
 #[tactic(auto, unfolding(crate::specs::Built::text_of))]
-fn text_of(alloc: Global, segments: &[Segment], s: &Section) -> Result<TextRange, NoMemory>
-    ensures { IfOk result (λ t. t ≡ text_of segments.now s.now) }
+fn text_of(alloc: Global, holders: &Holders, s: &Section) -> Result<TextRange, NoMemory>
+    requires { 0 < s.now.size }
+    ensures { IfOk result (λ t. t ≡ text_of holders.now.segments.now s.now) }
 {
     Ok(TextRange {
         from: s.at,
-        words: words_at(alloc, segments, s.at, s.size)?,
+        words: words_at(alloc, holders, s.at, s.size)?,
     })
 }
 
 /// The text ranges of text sections, in the order of the file.
 pub fn texts_of(
     alloc: Global,
-    segments: &[Segment],
+    holders: &Holders,
     sections: &[Section],
 ) -> Result<Vec<TextRange>, NoMemory>
-    ensures { IfOk result (λ v. v.items ≡ map (text_of segments.now) sections.now) }
+    requires { All (λ s. 0 < s.size) sections.now }
+    ensures { IfOk result (λ v. v.items ≡ map (text_of holders.now.segments.now) sections.now) }
 {
     let mut texts = Vec::with_capacity(alloc, sections.len())?;
     for s in sections {
-        texts.push(text_of(alloc, segments, s)?)?;
+        texts.push(text_of(alloc, holders, s)?)?;
     }
     Ok(texts)
 }

@@ -1,4 +1,4 @@
-use Rattle.std.proofs.Common.{◌≡◌, ◌≤◌, ◌<◌, ◌-◌, ◌∙◌, ap, get_or, sym, arith}
+use Rattle.std.proofs.Common.{◌≡◌, ◌-◌, ◌∙◌, ap, get_or, sym, arith}
 use Rattle.std.proofs.lemmas.List.{get_or_default}
 use Rattle.finite.proofs.Searching.{covered, uncovered}
 use Rattle.finite.proofs.search.place_covering.Goals as goal

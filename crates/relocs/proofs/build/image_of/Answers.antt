@@ -1,4 +1,4 @@
-use Rattle.std.proofs.Common.{◌≡◌, ◌<◌, ◌≤◌, refl}
+use Rattle.std.proofs.Common.{refl}
 use Rattle.finite.proofs.Arranged.{keys_rise}
 use Rattle.image.specs.Aims.{part_start, part_end, site_at, pair_at, slot_at}
 use Rattle.relocs.specs.Named.{is_call, is_far, is_stored}

@@ -1,4 +1,4 @@
-use Rattle.std.proofs.Common.{◌≡◌, ◌+◌, ◌*◌, length, ◌∙◌, sym, arith}
+use Rattle.std.proofs.Common.{◌+◌, ◌*◌, length, ◌∙◌, sym, arith}
 use Rattle.relocs.proofs.FunctionLemmas.{in_one, shifted}
 use Rattle.relocs.proofs.functions.in_one_text.Goals as goal
 

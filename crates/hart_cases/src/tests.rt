@@ -1,0 +1,443 @@
+//! Guests of several harts, run from their texts under a schedule.
+//!
+//! A case is a schedule, as harts and their numbers of steps, and what is wanted: the outcome, what was written to output 1,
+//! and what each hart does: L for live, W for waiting, E for ended.
+
+use elf_make::read_back::read_back;
+use hart::hart::Status;
+use image::picture::Image;
+use machine::machine::Machine;
+use relocs::build::build_image;
+use rv_asm::assemble::assemble;
+use std::alloc::{AllocError, Global};
+use std::test::Fail;
+
+/// A hart waits at a word, and the hart that it made wakes it. It is then answered 0, and writes A.
+const HANDOVER: &str = "\
+.func main
+    lui x10,16
+    addi x10,x10,256
+    add x11,x0,x2
+    addi x17,x0,220
+    ecall
+    lui x20,17
+    beq x10,x0,child
+    add x10,x0,x20
+    addi x11,x0,0
+    addi x12,x0,0
+    addi x13,x0,0
+    addi x17,x0,98
+    ecall
+    add x11,x0,x10
+    addi x10,x11,65
+    sb x10,8(x20)
+    addi x10,x0,1
+    addi x11,x20,8
+    addi x12,x0,1
+    addi x17,x0,64
+    ecall
+    addi x10,x0,7
+    addi x17,x0,93
+    ecall
+child:
+    addi x5,x0,1
+    sw x5,0(x20)
+    add x10,x0,x20
+    addi x11,x0,1
+    addi x12,x0,1
+    addi x17,x0,98
+    ecall
+    addi x17,x0,93
+    ecall
+.end
+.data
+    .space 16
+";
+
+/// A hart reserves a block, tries to store there and writes how that went, 0 or 1, again and again. The hart that it
+/// made makes accesses each of which may take the reservation away.
+const RESERVE: &str = "\
+.func main
+    lui x20,17
+    lui x10,16
+    addi x10,x10,256
+    add x11,x0,x2
+    addi x17,x0,220
+    ecall
+    beq x10,x0,other
+    addi x6,x0,48
+    addi x7,x0,4
+again:
+    lr.d x5,(x20)
+    sc.d x5,x7,(x20)
+    add x5,x5,x6
+    sb x5,64(x20)
+    addi x10,x0,1
+    addi x11,x20,64
+    addi x12,x0,1
+    addi x17,x0,64
+    ecall
+    jal x0,again
+other:
+    sw x0,8(x20)
+    sc.w x5,x0,(x20)
+    lr.w x5,(x20)
+    sw x0,4(x20)
+    lr.w x5,(x20)
+    sc.w x5,x0,(x20)
+    amoadd.w x5,x0,(x20)
+    lb x5,0(x20)
+    addi x10,x0,0
+    addi x11,x20,3
+    addi x12,x0,1
+    addi x17,x0,63
+    ecall
+    addi x10,x0,0
+    addi x11,x20,8
+    addi x17,x0,63
+    ecall
+    jal x0,other
+.end
+.data
+    .space 72
+";
+
+/// Reserves a block, reads a byte of the input into it, and exits with the answer of a store there.
+const OWN_WRITE: &str = "\
+.func main
+    lui x20,17
+    lr.d x5,(x20)
+    addi x10,x0,0
+    addi x11,x20,0
+    addi x12,x0,1
+    addi x17,x0,63
+    ecall
+    sc.d x10,x5,(x20)
+    addi x17,x0,93
+    ecall
+.end
+.data
+    .space 72
+";
+
+/// Maps two pages, lets them be read alone, gives one up, and stores there.
+const MAPPING: &str = "\
+.func main
+    addi x10,x0,0
+    lui x11,2
+    addi x12,x0,3
+    addi x13,x0,0x22
+    addi x17,x0,222
+    ecall
+    add x20,x0,x10
+    sd x20,0(x20)
+    ld x5,0(x20)
+    addi x11,x0,1
+    addi x12,x0,1
+    addi x17,x0,226
+    ecall
+    ld x5,0(x20)
+    add x10,x0,x20
+    lui x11,1
+    addi x17,x0,215
+    ecall
+    sd x20,0(x20)
+.end
+";
+
+/// A hart waits, and the one that it made ends.
+const STALLED: &str = "\
+.func main
+    lui x20,17
+    lui x10,16
+    addi x10,x10,256
+    add x11,x0,x2
+    addi x17,x0,220
+    ecall
+    bne x10,x0,first
+    addi x10,x0,9
+    addi x17,x0,93
+    ecall
+first:
+    add x10,x0,x20
+    addi x11,x0,128
+    addi x12,x0,0
+    addi x13,x0,0
+    addi x17,x0,98
+    ecall
+    addi x10,x0,5
+    addi x17,x0,93
+    ecall
+.end
+.data
+    .space 8
+";
+
+/// A hart waits at the word that the hart which it made clears at its end.
+const ENDING: &str = "\
+.func main
+    lui x20,17
+    lui x10,528
+    addi x10,x10,256
+    add x11,x0,x2
+    add x14,x0,x20
+    addi x17,x0,220
+    ecall
+    beq x10,x0,other
+    addi x5,x0,7
+    sw x5,0(x20)
+    add x10,x0,x20
+    addi x11,x0,0
+    addi x12,x0,7
+    addi x13,x0,0
+    addi x17,x0,98
+    ecall
+    lw x10,0(x20)
+    addi x10,x10,3
+    addi x17,x0,93
+    ecall
+other:
+    addi x10,x0,77
+    addi x17,x0,93
+    ecall
+.end
+.data
+    .space 8
+";
+
+/// A hart makes two that wait at one word, and wakes one of them.
+const ORDER: &str = "\
+.func main
+    lui x20,17
+    lui x18,16
+    addi x18,x18,256
+    add x11,x0,x2
+    addi x17,x0,220
+    add x10,x0,x18
+    ecall
+    beq x10,x0,waits
+    add x10,x0,x18
+    ecall
+    beq x10,x0,waits
+    add x10,x0,x20
+    addi x11,x0,1
+    addi x12,x0,1
+    addi x17,x0,98
+    ecall
+    jal x0,main
+waits:
+    add x10,x0,x20
+    addi x11,x0,0
+    addi x12,x0,0
+    addi x13,x0,0
+    addi x17,x0,98
+    ecall
+    ecall
+.end
+.data
+    .space 8
+";
+
+/// Makes harts without end.
+const MANY: &str = "\
+.func main
+    lui x18,16
+    addi x18,x18,256
+again:
+    add x10,x0,x18
+    add x11,x0,x2
+    addi x17,x0,220
+    ecall
+    bne x10,x0,again
+    jal x0,again
+.end
+";
+
+/// The image of a text's program.
+fn image_of(alloc: Global, text: &str) -> Result<Image, Fail> {
+    let text = text.as_bytes();
+    if text.len() > 67_108_864 {
+        return Err(Fail::new("too long"));
+    }
+    let program = assemble(alloc, text)?;
+    let parts = read_back(alloc, &program)?;
+    Ok(build_image(alloc, &parts, None)?)
+}
+
+fn number(word: &str) -> u32 {
+    let mut number: u32 = 0;
+    for digit in word.bytes() {
+        number = number
+            .wrapping_mul(10)
+            .wrapping_add(u32::from(digit.wrapping_sub(b'0')));
+    }
+    number
+}
+
+/// Runs a machine by a schedule such as `0*13 1*7`.
+fn run(machine: &mut Machine, image: &Image, schedule: &str) -> Result<(), Fail> {
+    for visit in schedule.split_whitespace() {
+        let (hart, steps) = visit.split_once('*').unwrap_or(("", ""));
+        machine.run(image, number(hart), number(steps))?;
+    }
+    Ok(())
+}
+
+fn letter(status: Status) -> char {
+    match status {
+        Status::Live => 'L',
+        Status::Waiting(_) => 'W',
+        Status::Ended => 'E',
+    }
+}
+
+/// What became of a run.
+fn state_of(alloc: Global, machine: &Machine) -> Result<String, AllocError> {
+    let outcome = machine.outcome();
+    let mut text = format!(in alloc; "{outcome:?} ")?;
+    for byte in machine.output(1) {
+        text.push(char::from(*byte))?;
+    }
+    text.push(' ')?;
+    for h in 0..machine.made() {
+        text.push(letter(machine.hart(h).status))?;
+    }
+    Ok(text)
+}
+
+/// What becomes of a program under a schedule, with the input `abc`.
+fn played(alloc: Global, image: &Image, schedule: &str) -> Result<String, Fail> {
+    let input = Vec::from_slice(alloc, b"abc")?;
+    let mut machine = Machine::start(alloc, image, input)?;
+    run(&mut machine, image, schedule)?;
+    Ok(state_of(alloc, &machine)?)
+}
+
+/// The first case of a text's program with another end than is wanted, and that end.
+fn first_wrong<'a>(
+    alloc: Global,
+    text: &str,
+    cases: &'a str,
+) -> Result<Option<(&'a str, String)>, Fail> {
+    let image = image_of(alloc, text)?;
+    for case in cases.lines() {
+        let (schedule, wanted) = case.split_once(" = ").unwrap_or(("", ""));
+        let got = played(alloc, &image, schedule)?;
+        if got.as_str() != wanted {
+            return Ok(Some((case, got)));
+        }
+    }
+    Ok(None)
+}
+
+const HANDOVER_CASES: &str = "\
+0*13 = None  WL
+0*18 7*5 = None  WL
+0*13 1*8 = None  WL
+0*13 1*9 = None  LL
+0*13 1*20 = None  LE
+0*13 1*20 0*8 = None A LE
+0*13 1*20 0*30 = Some(Exit(7)) A EE
+0*5 1*9 0*8 = None  LL
+0*13 1*9 0*20 1*5 = Some(Exit(1)) A EE
+";
+
+#[test]
+fn a_hart_waits_until_it_is_woken(rt: HostRuntime) -> Result<(), Fail> {
+    assert_eq!(rt; first_wrong(rt.alloc(), HANDOVER, HANDOVER_CASES)?, None);
+    Ok(())
+}
+
+const RESERVE_CASES: &str = "\
+0*10 1*2 0*10 1*1 0*10 1*1 0*10 1*1 0*10 1*2 0*10 1*1 0*10 1*1 0*10 1*5 0*10 1*4 0*10 = None 000111010 LL
+";
+
+#[test]
+fn accesses_of_others_take_a_reservation_away(rt: HostRuntime) -> Result<(), Fail> {
+    assert_eq!(rt; first_wrong(rt.alloc(), RESERVE, RESERVE_CASES)?, None);
+    Ok(())
+}
+
+const OWN_WRITE_CASES: &str = "\
+0*20 = Some(Exit(1))  E
+";
+
+#[test]
+fn the_system_takes_the_callers_reservation_too(rt: HostRuntime) -> Result<(), Fail> {
+    assert_eq!(rt; first_wrong(rt.alloc(), OWN_WRITE, OWN_WRITE_CASES)?, None);
+    Ok(())
+}
+
+const MAPPING_CASES: &str = "\
+0*17 = None  L
+0*40 = Some(Trap { cause: 7, pc: 65608, value: 260038656 })  L
+";
+
+#[test]
+fn memory_is_mapped_and_given_up(rt: HostRuntime) -> Result<(), Fail> {
+    assert_eq!(rt; first_wrong(rt.alloc(), MAPPING, MAPPING_CASES)?, None);
+    Ok(())
+}
+
+const STALLED_CASES: &str = "\
+0*13 = None  WL
+0*13 1*2 = None  WL
+0*13 1*4 = Some(Stalled)  WE
+0*6 1*4 = None  LE
+0*6 1*4 0*7 = Some(Stalled)  WE
+";
+
+#[test]
+fn a_run_stalls_where_all_that_are_left_wait(rt: HostRuntime) -> Result<(), Fail> {
+    assert_eq!(rt; first_wrong(rt.alloc(), STALLED, STALLED_CASES)?, None);
+    Ok(())
+}
+
+const ENDING_CASES: &str = "\
+0*16 1*3 = None  WL
+0*16 1*4 = None  LE
+0*16 1*4 0*4 = Some(Exit(3))  EE
+";
+
+#[test]
+fn a_hart_that_ends_wakes_who_waits_for_it(rt: HostRuntime) -> Result<(), Fail> {
+    assert_eq!(rt; first_wrong(rt.alloc(), ENDING, ENDING_CASES)?, None);
+    Ok(())
+}
+
+const ORDER_CASES: &str = "\
+0*10 1*7 2*7 = None  LWW
+0*10 1*7 2*7 0*6 = None  LLW
+0*10 2*7 1*7 0*6 = None  LWL
+";
+
+#[test]
+fn the_longest_waiting_is_woken(rt: HostRuntime) -> Result<(), Fail> {
+    assert_eq!(rt; first_wrong(rt.alloc(), ORDER, ORDER_CASES)?, None);
+    Ok(())
+}
+
+const MANY_CASES: &str = "\
+0*317 = None  LLLLLLLLLLLLLLLLLLLLLLLLLLLLLLLLLLLLLLLLLLLLLLLLLLLLLLLLLLLLLLLL
+0*1000 = Some(HartsFull)  LLLLLLLLLLLLLLLLLLLLLLLLLLLLLLLLLLLLLLLLLLLLLLLLLLLLLLLLLLLLLLLL
+";
+
+#[test]
+fn harts_are_counted_up_to_their_limit(rt: HostRuntime) -> Result<(), Fail> {
+    assert_eq!(rt; first_wrong(rt.alloc(), MANY, MANY_CASES)?, None);
+    Ok(())
+}
+
+#[test]
+fn harts_and_links_can_be_set(rt: HostRuntime) -> Result<(), Fail> {
+    let alloc = rt.alloc();
+    let image = image_of(alloc, STALLED)?;
+    let mut machine = Machine::start(alloc, &image, Vec::new(alloc))?;
+    let regs = machine.hart(0).regs;
+    machine.set_hart(0, regs, 65_560);
+    assert_eq!(rt; machine.hart(0).pc, 65_560);
+    assert!(rt; machine.links(alloc)?.is_empty());
+    assert!(rt; machine.is_live(0));
+    assert!(rt; !machine.is_live(1));
+    Ok(())
+}
