@@ -12,6 +12,11 @@ pub stays : (image : Picture) (hs : List ℕ) (s : State) → is_some s.outcome 
 stays image [] s some = refl
 stays image (h ∷ hs) s some = ap (original_run image hs) (step_of_ended image h s some) ∙ stays image hs s some
 
+-- a run of two lists, one after the other
+pub run_append : (image : Picture) (hs ks : List ℕ) (s : State) → original_run image (hs ++ ks) s ≡ original_run image ks (original_run image hs s)
+run_append image [] ks s = refl
+run_append image (h ∷ hs) ks s = run_append image hs ks (original_step image h s)
+
 pub one_more : (image : Picture) (h n : ℕ) (s : State) → original_run image (replicate (suc n) h) s ≡ original_step image h (original_run image (replicate n h) s)
 one_more image h zero s = refl
 one_more image h (suc n) s = one_more image h n (original_step image h s)

@@ -390,7 +390,7 @@ impl Machine {
     }
 
     /// So many steps of hart `h`. After want of memory some of them are made.
-    pub fn run(&mut self, image: &Image, h: u32, steps: u32) -> Result<(), NoMemory>
+    pub fn run(&mut self, image: &Image, h: u32, steps: u64) -> Result<(), NoMemory>
         ensures ok { OnOk result (self.new ≡ original_run image.now (replicate steps h) self.old) }
         ensures err { OnErr result ((n : ℕ) × (n < steps) × (self.new ≡ original_run image.now (replicate n h) self.old)) }
     {

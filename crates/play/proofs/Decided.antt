@@ -1,74 +1,81 @@
 -- How a decision follows from its steps, and its reason from theirs.
-use Rattle.std.proofs.Common.{◌≡◌, inl, inr, ℕ, List, [], ◌∷◌, Option, Result, Ok, Err, ap, sym, subst, refl, ◌∙◌, ◌≤◌, arith}
+use Rattle.std.proofs.Common.{◌≡◌, ◌⊎◌, inl, inr, ℕ, List, [], ◌∷◌, Option, Result, Ok, Err, ap, sym, subst, refl, ◌∙◌, ◌≤◌, arith}
 use Rattle.std.specs.Option.{ForSome}
 use Rattle.oc_base.specs.Outside.{Disk, gained, Asks, GainedPart, TakeFailed}
 use Rattle.oc_base.proofs.Told.{gained-gained}
-use Rattle.play.specs.declared.answer.Ended.{Ended}
-use Rattle.play.specs.declared.answer.Ended.TheVariants.{Ran, Usage, ReadFault, TooLong, Program, Early, WriteFault, NoMemory}
-use Rattle.play.specs.declared.delivery.Delivery.{Delivery}
+use Rattle.report.specs.declared.answer.Ended.{Ended}
+use Rattle.report.specs.declared.answer.Ended.TheVariants.{Program, NoMemory}
+use Rattle.report.specs.declared.writing.Delivery.{Delivery}
+use Rattle.report.specs.Cause.{Reason, Because}
+use Rattle.report.specs.Reading.{within, input_within, InputFailed}
+use Rattle.report.proofs.Reasons.{Reason-of_step}
 use Rattle.play.specs.declared.TheConstants.{PROGRAM_LIMIT, SCRIPT_LIMIT}
-use Rattle.play.specs.Decision.{form_of, within, files_of, Delivers, Decides, DecidesFrom, Builds, Refuses, run_of}
+use Rattle.play.specs.Decision.{form_of, Given, given_by, Delivers, Decides, DecidesFrom, Builds, Refuses, run_of}
+use Rattle.play.specs.Causes.{Read, Failed, Told, Decided}
 use Rattle.image.specs.Picture.{Picture}
-use Rattle.play.specs.Cause.{Reason, Because, Decided}
 
-files-usage : (words : List (List ℕ)) (disk : Disk) (e : Ended) → form_of words ≡ Err e → files_of words disk ≡ Err e
-unfolding files_of
-files-usage words disk e form = simp form
+given-usage : (words : List (List ℕ)) (disk : Disk) (all : List ℕ) (e : Ended) → form_of words ≡ Err e → given_by words disk all ≡ Err e
+unfolding given_by
+given-usage words disk all e form = simp form
 
-files-program : (words : List (List ℕ)) (disk : Disk) (p s : List ℕ) (e : Ended) → form_of words ≡ Ok (p, s) → within p PROGRAM_LIMIT (disk p) ≡ Err e → files_of words disk ≡ Err e
-unfolding files_of
-files-program words disk p s e form program = simp (form, program)
+given-program : (words : List (List ℕ)) (disk : Disk) (all p s : List ℕ) (e : Ended) → form_of words ≡ Ok (p, s) → within p PROGRAM_LIMIT (disk p) ≡ Err e → given_by words disk all ≡ Err e
+unfolding given_by
+given-program words disk all p s e form program = simp (form, program)
 
-files-script : (words : List (List ℕ)) (disk : Disk) (p s bytes : List ℕ) (e : Ended) → form_of words ≡ Ok (p, s) → within p PROGRAM_LIMIT (disk p) ≡ Ok bytes → within s SCRIPT_LIMIT (disk s) ≡ Err e → files_of words disk ≡ Err e
-unfolding files_of
-files-script words disk p s bytes e form program script = simp (form, program, script)
+given-script : (words : List (List ℕ)) (disk : Disk) (all p s bytes : List ℕ) (e : Ended) → form_of words ≡ Ok (p, s) → within p PROGRAM_LIMIT (disk p) ≡ Ok bytes → within s SCRIPT_LIMIT (disk s) ≡ Err e → given_by words disk all ≡ Err e
+unfolding given_by
+given-script words disk all p s bytes e form program script = simp (form, program, script)
 
-files-both : (words : List (List ℕ)) (disk : Disk) (p s bytes lines : List ℕ) → form_of words ≡ Ok (p, s) → within p PROGRAM_LIMIT (disk p) ≡ Ok bytes → within s SCRIPT_LIMIT (disk s) ≡ Ok lines → files_of words disk ≡ Ok (bytes, lines)
-unfolding files_of
-files-both words disk p s bytes lines form program script = simp (form, program, script)
+given-input : (words : List (List ℕ)) (disk : Disk) (all p s bytes lines : List ℕ) (e : Ended) → form_of words ≡ Ok (p, s) → within p PROGRAM_LIMIT (disk p) ≡ Ok bytes → within s SCRIPT_LIMIT (disk s) ≡ Ok lines → input_within all ≡ Err e → given_by words disk all ≡ Err e
+unfolding given_by
+given-input words disk all p s bytes lines e form program script input = simp (form, program, script, input)
 
--- a refusal before both files are there is what is asked for
-refused : (words : List (List ℕ)) (disk : Disk) (e : Ended) → files_of words disk ≡ Err e → Decides words disk (Err e)
-refused words disk e files = subst (λ f. DecidesFrom f (Err e)) (sym files) refl
+given-all : (words : List (List ℕ)) (disk : Disk) (all p s : List ℕ) (given : Given) → form_of words ≡ Ok (p, s) → within p PROGRAM_LIMIT (disk p) ≡ Ok given.program → within s SCRIPT_LIMIT (disk s) ≡ Ok given.script → input_within all ≡ Ok given.input → given_by words disk all ≡ Ok given
+unfolding given_by
+given-all words disk all p s given form program script input = simp (form, program, script, input)
 
-pub decides-usage : (words : List (List ℕ)) (disk : Disk) (e : Ended) → form_of words ≡ Err e → Decides words disk (Err e)
-decides-usage words disk e form = refused words disk e (files-usage words disk e form)
+-- a refusal before all is there is what is asked for
+refused : (words : List (List ℕ)) (disk : Disk) (all : List ℕ) (e : Ended) → given_by words disk all ≡ Err e → Decides words disk all (Err e)
+refused words disk all e given = subst (λ f. DecidesFrom f (Err e)) (sym given) refl
 
-decides-run : (words : List (List ℕ)) (disk : Disk) (p s bytes lines : List ℕ) (d : Result Delivery Ended) → form_of words ≡ Ok (p, s) → within p PROGRAM_LIMIT (disk p) ≡ Ok bytes → within s SCRIPT_LIMIT (disk s) ≡ Ok lines → Delivers bytes lines d → Decides words disk d
-decides-run words disk p s bytes lines d form program script delivers = subst (λ f. DecidesFrom f d) (sym (files-both words disk p s bytes lines form program script)) delivers
+pub decides-usage : (words : List (List ℕ)) (disk : Disk) (all : List ℕ) (e : Ended) → form_of words ≡ Err e → Decides words disk all (Err e)
+decides-usage words disk all e form = refused words disk all e (given-usage words disk all e form)
 
--- A reason of a step is one of the whole.
-pub Reason-of_step : {usage usage' : Type 0} {fault fault' : List ℕ → Type 0} {is is' : Ended → Type 0} (e : Ended) → (usage → usage') → ((name : List ℕ) → fault name → fault' name) → ((e : Ended) → is e → is' e) → Reason usage fault is e → Reason usage' fault' is' e
-Reason-of_step Usage u f i why = u why
-Reason-of_step (ReadFault name) u f i why = f name why
-Reason-of_step NoMemory u f i why = why
-Reason-of_step WriteFault u f i why = why
-Reason-of_step (Ran outcome) u f i why = why
-Reason-of_step (TooLong name) u f i why = i (TooLong name) why
-Reason-of_step Early u f i why = i Early why
-Reason-of_step (Program fault) u f i why = i (Program fault) why
+decides-run : (words : List (List ℕ)) (disk : Disk) (all p s : List ℕ) (given : Given) (d : Result Delivery Ended) → form_of words ≡ Ok (p, s) → within p PROGRAM_LIMIT (disk p) ≡ Ok given.program → within s SCRIPT_LIMIT (disk s) ≡ Ok given.script → input_within all ≡ Ok given.input → Delivers given d → Decides words disk all d
+decides-run words disk all p s given d form program script input delivers = subst (λ f. DecidesFrom f d) (sym (given-all words disk all p s given form program script input)) delivers
+
+-- what the words, the files and the input ask for, where they tell
+abbrev IsAsked : List (List ℕ) → Read → Ended → Type 0
+IsAsked words r e = Told r.disk r.input (λ disk all. Decides words disk all (Err e))
 
 -- the program was refused
-pub why_program : (words : List (List ℕ)) (told : Option Disk) (asked : Option (List (List ℕ))) (before now : ℕ) (p s : List ℕ) (e : Ended) → form_of words ≡ Ok (p, s) → Reason ⊥ (λ name. TakeFailed name asked before now) (λ e. ForSome told (λ disk. within p PROGRAM_LIMIT (disk p) ≡ Err e)) e → Decided words told asked before now (Err e)
-why_program words told asked before now p s e form why =
-    Reason-of_step {fault = λ name. TakeFailed name asked before now} {fault' = λ name. TakeFailed name asked before now} {is = λ e. ForSome told (λ disk. within p PROGRAM_LIMIT (disk p) ≡ Err e)} {is' = λ e. ForSome told (λ disk. Decides words disk (Err e))}
-    e absurd (λ name failed. failed) (λ e is. λ disk tells. refused words disk e (files-program words disk p s e form (is disk tells))) why
+pub why_program : (words : List (List ℕ)) (r : Read) (p s : List ℕ) (e : Ended) → form_of words ≡ Ok (p, s) → Reason ⊥ (λ name. TakeFailed name r.asked r.takes_before r.takes_now) (λ e. ForSome r.disk (λ disk. within p PROGRAM_LIMIT (disk p) ≡ Err e)) e → Decided words r (Err e)
+why_program words r p s e form why =
+    Reason-of_step {fault = λ name. TakeFailed name r.asked r.takes_before r.takes_now} {fault' = Failed r} {is = λ e. ForSome r.disk (λ disk. within p PROGRAM_LIMIT (disk p) ≡ Err e)} {is' = IsAsked words r}
+    e absurd (λ name failed. inl failed) (λ e is. λ disk tells all tells'. refused words disk all e (given-program words disk all p s e form (is disk tells))) why
 
 -- the script was refused
-pub why_script : (words : List (List ℕ)) (told told' : Option Disk) (asked : Option (List (List ℕ))) (before between now : ℕ) (p s bytes : List ℕ) (e : Ended) → form_of words ≡ Ok (p, s) → ForSome told (λ disk. within p PROGRAM_LIMIT (disk p) ≡ Ok bytes) → told' ≡ told → before ≤ between → Reason ⊥ (λ name. TakeFailed name asked between now) (λ e. ForSome told' (λ disk. within s SCRIPT_LIMIT (disk s) ≡ Err e)) e → Decided words told asked before now (Err e)
-why_script words told told' asked before between now p s bytes e form program same later why =
-    Reason-of_step {fault = λ name. TakeFailed name asked between now} {fault' = λ name. TakeFailed name asked before now} {is = λ e. ForSome told' (λ disk. within s SCRIPT_LIMIT (disk s) ≡ Err e)} {is' = λ e. ForSome told (λ disk. Decides words disk (Err e))}
-    e absurd (λ name failed. record { rose = omega (arith, failed.rose); last = failed.last })
-    (λ e is. λ disk tells. refused words disk e (files-script words disk p s bytes e form (program disk tells) (is disk (same ∙ tells)))) why
+pub why_script : (words : List (List ℕ)) (r : Read) (told : Option Disk) (between : ℕ) (p s bytes : List ℕ) (e : Ended) → form_of words ≡ Ok (p, s) → ForSome r.disk (λ disk. within p PROGRAM_LIMIT (disk p) ≡ Ok bytes) → told ≡ r.disk → r.takes_before ≤ between → Reason ⊥ (λ name. TakeFailed name r.asked between r.takes_now) (λ e. ForSome told (λ disk. within s SCRIPT_LIMIT (disk s) ≡ Err e)) e → Decided words r (Err e)
+why_script words r told between p s bytes e form program same later why =
+    Reason-of_step {fault = λ name. TakeFailed name r.asked between r.takes_now} {fault' = Failed r} {is = λ e. ForSome told (λ disk. within s SCRIPT_LIMIT (disk s) ≡ Err e)} {is' = IsAsked words r}
+    e absurd (λ name failed. inl (record { rose = omega (arith, failed.rose); last = failed.last }))
+    (λ e is. λ disk tells all tells'. refused words disk all e (given-script words disk all p s bytes e form (program disk tells) (is disk (same ∙ tells)))) why
+
+-- the input was refused
+pub why_input : (words : List (List ℕ)) (r : Read) (told : Option Disk) (p s bytes lines : List ℕ) (e : Ended) → form_of words ≡ Ok (p, s) → ForSome r.disk (λ disk. within p PROGRAM_LIMIT (disk p) ≡ Ok bytes) → told ≡ r.disk → ForSome told (λ disk. within s SCRIPT_LIMIT (disk s) ≡ Ok lines) → Reason ⊥ (λ name. InputFailed name r.reads_before r.reads_now) (λ e. ForSome r.input (λ all. input_within all ≡ Err e)) e → Decided words r (Err e)
+why_input words r told p s bytes lines e form program same script why =
+    Reason-of_step {fault = λ name. InputFailed name r.reads_before r.reads_now} {fault' = Failed r} {is = λ e. ForSome r.input (λ all. input_within all ≡ Err e)} {is' = IsAsked words r}
+    e absurd (λ name failed. inr failed)
+    (λ e is. λ disk tells all tells'. refused words disk all e (given-input words disk all p s bytes lines e form (program disk tells) (script disk (same ∙ tells)) (is all tells'))) why
 
 -- what the bytes deliver or refuse
-pub why_run : (words : List (List ℕ)) (told told' : Option Disk) (asked : Option (List (List ℕ))) (before now : ℕ) (p s bytes lines : List ℕ) (result : Result Delivery Ended) → form_of words ≡ Ok (p, s) → ForSome told (λ disk. within p PROGRAM_LIMIT (disk p) ≡ Ok bytes) → told' ≡ told → ForSome told' (λ disk. within s SCRIPT_LIMIT (disk s) ≡ Ok lines) → Because ⊥ (λ name. ⊥) (Delivers bytes lines) result → Decided words told asked before now result
-why_run words told told' asked before now p s bytes lines (Ok delivery) form program same script why = λ disk tells.
-    decides-run words disk p s bytes lines (Ok delivery) form (program disk tells) (script disk (same ∙ tells)) why
-why_run words told told' asked before now p s bytes lines (Err e) form program same script why =
-    Reason-of_step {fault = λ name. ⊥} {fault' = λ name. TakeFailed name asked before now} {is = λ e. Delivers bytes lines (Err e)} {is' = λ e. ForSome told (λ disk. Decides words disk (Err e))}
+pub why_run : (words : List (List ℕ)) (r : Read) (told : Option Disk) (p s : List ℕ) (given : Given) (result : Result Delivery Ended) → form_of words ≡ Ok (p, s) → ForSome r.disk (λ disk. within p PROGRAM_LIMIT (disk p) ≡ Ok given.program) → told ≡ r.disk → ForSome told (λ disk. within s SCRIPT_LIMIT (disk s) ≡ Ok given.script) → ForSome r.input (λ all. input_within all ≡ Ok given.input) → Because ⊥ (λ name. ⊥) (Delivers given) result → Decided words r result
+why_run words r told p s given (Ok delivery) form program same script input why = λ disk tells all tells'.
+    decides-run words disk all p s given (Ok delivery) form (program disk tells) (script disk (same ∙ tells)) (input all tells') why
+why_run words r told p s given (Err e) form program same script input why =
+    Reason-of_step {fault = λ name. ⊥} {fault' = Failed r} {is = λ e. Delivers given (Err e)} {is' = IsAsked words r}
     e absurd (λ name none. absurd none)
-    (λ e is. λ disk tells. decides-run words disk p s bytes lines (Err e) form (program disk tells) (script disk (same ∙ tells)) is) why
+    (λ e is. λ disk tells all tells'. decides-run words disk all p s given (Err e) form (program disk tells) (script disk (same ∙ tells)) (input all tells') is) why
 
 -- The names that were asked for, step by step.
 abbrev ok_of : {T : Type 0} → T → Result T Ended
@@ -83,18 +90,18 @@ asked_two before between now p s result first (inl e) = record { count = 2; part
 asked_two before between now p s result first (inr h) = record { count = 1; part = h.0 ∙ first }
 
 -- a program that is refused delivers this refusal
-refused_delivers : (program script : List ℕ) (e : Ended) → Refuses program e → Delivers program script (Err e)
-refused_delivers program script (Program fault) is = (Err fault, is, refl)
-refused_delivers program script _ is = absurd is
+refused_delivers : (given : Given) (e : Ended) → Refuses given.program e → Delivers given (Err e)
+refused_delivers given (Program fault) is = (Err fault, is, refl)
+refused_delivers given _ is = absurd is
 
-pub refused_program : (program script : List ℕ) (e : Ended) → Reason ⊥ (λ name. ⊥) (Refuses program) e → Reason ⊥ (λ name. ⊥) (λ e. Delivers program script (Err e)) e
-refused_program program script e why =
-    Reason-of_step {fault = λ name. ⊥} {fault' = λ name. ⊥} {is = Refuses program} {is' = λ e. Delivers program script (Err e)}
-    e absurd (λ name none. absurd none) (refused_delivers program script) why
+pub refused_program : (given : Given) (e : Ended) → Reason ⊥ (λ name. ⊥) (Refuses given.program) e → Reason ⊥ (λ name. ⊥) (λ e. Delivers given (Err e)) e
+refused_program given e why =
+    Reason-of_step {fault = λ name. ⊥} {fault' = λ name. ⊥} {is = Refuses given.program} {is' = λ e. Delivers given (Err e)}
+    e absurd (λ name none. absurd none) (refused_delivers given) why
 
 -- and one with an image what the run of the image does
-pub run_program : (program script : List ℕ) (image : Picture) (result : Result Delivery Ended) → Builds program (Ok image) → Because ⊥ (λ name. ⊥) (λ d. run_of image script ≡ d) result → Because ⊥ (λ name. ⊥) (Delivers program script) result
-run_program program script image (Ok delivery) builds why = (Ok image, builds, why)
-run_program program script image (Err e) builds why =
-    Reason-of_step {fault = λ name. ⊥} {fault' = λ name. ⊥} {is = λ e. run_of image script ≡ Err e} {is' = λ e. Delivers program script (Err e)}
+pub run_program : (given : Given) (image : Picture) (result : Result Delivery Ended) → Builds given.program (Ok image) → Because ⊥ (λ name. ⊥) (λ d. run_of image given.script given.input ≡ d) result → Because ⊥ (λ name. ⊥) (Delivers given) result
+run_program given image (Ok delivery) builds why = (Ok image, builds, why)
+run_program given image (Err e) builds why =
+    Reason-of_step {fault = λ name. ⊥} {fault' = λ name. ⊥} {is = λ e. run_of image given.script given.input ≡ Err e} {is' = λ e. Delivers given (Err e)}
     e absurd (λ name none. absurd none) (λ e is. (Ok image, builds, is)) why

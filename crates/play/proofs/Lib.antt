@@ -1,3 +1,4 @@
 pub mod Decided
 pub mod OneDecision
+pub mod Turns
 pub mod Written

@@ -1,4 +1,3 @@
-pub mod Answer
-pub mod Cause
+pub mod Causes
 pub mod Decision
-pub mod Script
+pub mod Schedule

@@ -1,8 +1,9 @@
-//! Runs over the implementations in memory: what is answered and what is written.
+//! Calls over files, an input and outputs in memory: what is answered and what is written.
 
 use crate::PROGRAM_LIMIT;
 use crate::call::play;
 use oc_base::memory::{MemFiles, MemSink, MemSource};
+use report::INPUT_LIMIT;
 use std::alloc::Global;
 use std::process::Abort;
 use std::test::Fail;
@@ -17,77 +18,6 @@ const HI: [u32; 8] = [
     0x0000_0513, // addi x10, x0, 0
     0x05d0_0893, // addi x17, x0, 93
     0x0000_0073, // ecall
-];
-
-// A guest that calls twice, and exits with the lowest 6 bits of the address of a word of the callee.
-const COUNTDOWN: [u32; 10] = [
-    0x0100_00ef, // jal x1, 0x10010
-    0x00c0_00ef, // jal x1, 0x10010
-    0x05d0_0893, // addi x17, x0, 93
-    0x0000_0073, // ecall
-    0x0020_0293, // addi x5, x0, 2
-    0xfff2_8293, // addi x5, x5, -1
-    0xfe02_9ee3, // bne x5, x0, 0x10014
-    0x0000_0317, // auipc x6, 0
-    0x03f3_7513, // andi x10, x6, 63
-    0x0000_8067, // jalr x0, 0(x1)
-];
-
-// A guest that stores a return address, writes over a byte of it and exits with the lowest byte of the word.
-const BYTE_OF_LINK: [u32; 8] = [
-    0x0040_00ef, // jal x1, 0x10004
-    0x0040_00ef, // jal x1, 0x10008
-    0xfe11_3c23, // sd x1, -8(x2)
-    0xfe01_0ca3, // sb x0, -7(x2)
-    0xff81_3283, // ld x5, -8(x2)
-    0x0ff2_f513, // andi x10, x5, 255
-    0x05d0_0893, // addi x17, x0, 93
-    0x0000_0073, // ecall
-];
-
-// A guest that adds a return address to itself.
-const LINK_ADDED: [u32; 2] = [
-    0x0040_00ef, // jal x1, 0x10004
-    0x0010_8333, // add x6, x1, x1
-];
-
-// A guest that jumps 4 bytes past a return address.
-const PAST_LINK: [u32; 2] = [
-    0x0040_00ef, // jal x1, 0x10004
-    0x0040_8067, // jalr x0, 4(x1)
-];
-
-// A guest that jumps to an address of its own making, outside its text.
-const FORGED_ADDRESS: [u32; 2] = [
-    0x0001_22b7, // lui x5, 18
-    0x0002_8067, // jalr x0, 0(x5)
-];
-
-// A guest that exits with a return address.
-const LINK_AS_STATUS: [u32; 4] = [
-    0x0040_00ef, // jal x1, 0x10004
-    0x0000_8513, // addi x10, x1, 0
-    0x05d0_0893, // addi x17, x0, 93
-    0x0000_0073, // ecall
-];
-
-// A guest that exits with the first byte of its name, by the first of its arguments.
-const NAME: [u32; 5] = [
-    0x0081_3283, // ld x5, 8(x2)
-    0x0002_c503, // lbu x10, 0(x5)
-    0x05d0_0893, // addi x17, x0, 93
-    0x0000_0073, // ecall
-    0x0010_0073, // ebreak
-];
-
-// A guest that jumps to the second word of its far call. The function it calls is the last word.
-const FAR_CALL: [u32; 6] = [
-    0x0001_02b7, // lui x5, 16
-    0x0102_8067, // jalr x0, 16(x5)
-    0x0000_0013, // addi x0, x0, 0
-    0x0000_0097, // auipc x1, 0
-    0x0080_80e7, // jalr x1, 8(x1)
-    0x0000_8067, // jalr x0, 0(x1)
 ];
 
 fn put(file: &mut Vec<u8>, bytes: &[u8]) -> Result<(), Fail> {
@@ -152,35 +82,6 @@ fn program(alloc: Global, words: &[u32], data: &[u8]) -> Result<Vec<u8>, Fail> {
     Ok(file)
 }
 
-// An ELF file with the words of `FAR_CALL` at 0x10000, the symbol of the function at 0x10014, and a relocation of the far call
-// at 0x1000c (type 19).
-fn far_call(alloc: Global) -> Result<Vec<u8>, Fail> {
-    let mut file = Vec::new(alloc);
-    put(
-        &mut file,
-        b"\x7fELF\x02\x01\x01\0\0\0\0\0\0\0\0\0\x02\0\xf3\0\x01\0\0\0",
-    )?;
-    for field in [0x10000u64, 64, 216] {
-        put(&mut file, &field.to_le_bytes())?;
-    }
-    put(&mut file, b"\0\0\0\0\x40\0\x38\0\x01\0\x40\0\x04\0\0\0")?;
-    program_header(&mut file, 5, 120, 0x10000, 24)?;
-    for word in FAR_CALL {
-        put(&mut file, &word.to_le_bytes())?;
-    }
-    for field in [0u64, 0, 0, 0x0001_0002_0000_0000, 0x10014, 4] {
-        put(&mut file, &field.to_le_bytes())?;
-    }
-    for field in [0x1000cu64, 0x0000_0001_0000_0013, 0] {
-        put(&mut file, &field.to_le_bytes())?;
-    }
-    section_header(&mut file, 0, 0, 0, 0, 0, 0)?;
-    section_header(&mut file, 1, 6, 0x10000, 120, 24, 0)?;
-    section_header(&mut file, 2, 0, 0, 144, 48, 0)?;
-    section_header(&mut file, 4, 0, 0, 192, 24, 2)?;
-    Ok(file)
-}
-
 fn named(alloc: Global, name: &str, bytes: Vec<u8>) -> Result<(String, Vec<u8>), Fail> {
     Ok((String::from_str(alloc, name)?, bytes))
 }
@@ -209,323 +110,186 @@ fn compressed(alloc: Global) -> Result<Vec<u8>, Fail> {
 }
 
 // The files of all rows. The whole file `hi.elf` has 403 bytes, its section headers from 211 on.
+const SCRIPTS: [(&str, &str); 11] = [
+    ("whole", "real 0 100\nend\n"),
+    ("four", "real 0 4\nend\n"),
+    ("till", "# all harts\n\ntill 100\nend"),
+    ("steps", "steps 0 3\nsteps 0 5\nend\n"),
+    ("another hart", "real 1 100\nend\n"),
+    ("no end", "till 5\n"),
+    ("go", "go\n"),
+    ("number", "till x\n"),
+    ("two ends", "end\nend\n"),
+    ("most", "real 0 2000000000\nend\n"),
+    ("too many", "till 5\nreal 0 1999999996\nend\n"),
+];
+
 fn disk(alloc: Global) -> Result<Vec<(String, Vec<u8>)>, Fail> {
     let mut files = Vec::new(alloc);
     files.push(named(alloc, "hi.elf", program(alloc, &HI, b"hi\n")?)?)?;
     files.push(named(alloc, "trap.elf", ending(alloc, 0x0000_0013)?)?)?;
     files.push(named(alloc, "branch.elf", ending(alloc, 0x0000_0063)?)?)?;
-    files.push(named(alloc, "countdown.elf", program(alloc, &COUNTDOWN, b"")?)?)?;
-    files.push(named(alloc, "byte.elf", program(alloc, &BYTE_OF_LINK, b"")?)?)?;
-    files.push(named(alloc, "added.elf", program(alloc, &LINK_ADDED, b"")?)?)?;
-    files.push(named(alloc, "past.elf", program(alloc, &PAST_LINK, b"")?)?)?;
-    files.push(named(alloc, "forged.elf", program(alloc, &FORGED_ADDRESS, b"")?)?)?;
-    files.push(named(alloc, "status.elf", program(alloc, &LINK_AS_STATUS, b"")?)?)?;
-    files.push(named(alloc, "name.elf", program(alloc, &NAME, b"")?)?)?;
-    files.push(named(alloc, "far call.elf", far_call(alloc)?)?)?;
     files.push(named(alloc, "empty.elf", Vec::new(alloc))?)?;
     files.push(named(alloc, "cut.elf", cut(alloc, 63)?)?)?;
-    files.push(named(alloc, "cut at the end.elf", cut(alloc, 402)?)?)?;
+    files.push(named(alloc, "last-byte-cut.elf", cut(alloc, 402)?)?)?;
     files.push(named(alloc, "compressed.elf", compressed(alloc)?)?)?;
     files.push(named(
         alloc,
-        "into the region.elf",
+        "into-the-region.elf",
         program(alloc, &[0x0000_206f], b"")?,
     )?)?;
-    files.push(named(alloc, "whole", b"real 0 100\nend\n".to_vec(alloc)?)?)?;
-    files.push(named(alloc, "no newline", b"real 0 100\nend".to_vec(alloc)?)?)?;
-    files.push(named(alloc, "four", b"real 0 4\nend\n".to_vec(alloc)?)?)?;
-    files.push(named(alloc, "till", b"till 100\nend\n".to_vec(alloc)?)?)?;
-    files.push(named(alloc, "most", b"real 0 2000000000\nend\n".to_vec(alloc)?)?)?;
-    files.push(named(
-        alloc,
-        "too many",
-        b"real 0 2000000001\nend\n".to_vec(alloc)?,
-    )?)?;
+    for (name, text) in SCRIPTS {
+        files.push(named(alloc, name, text.as_bytes().to_vec(alloc)?)?)?;
+    }
     Ok(files)
 }
 
-// A call: its words, the numbers of the calls of `files`, `out` and `err` that fail (0: none), and its answer.
-struct Row {
-    words: &'static [&'static str],
-    fails: [u64; 3],
-    status: u8,
-    out: &'static str,
-    err: &'static str,
+// Calls: the words, parted by commas; the numbers of the calls of files, input and both outputs that fail (0: none); the
+// status; what is on the first output, and on the second after `ocolos: `. A newline is written `/`.
+const RUNS: &str = "\
+hi.elf,whole|0 0 0 0|0|hi/|exit 0/
+hi.elf,till|0 0 0 0|0|hi/|exit 0/
+hi.elf,steps|0 0 0 0|0|hi/|exit 0/
+hi.elf,most|0 0 0 0|0|hi/|exit 0/
+hi.elf,four|0 0 0 0|115||unfinished/
+hi.elf,another hart|0 0 0 0|115||unfinished/
+branch.elf,whole|0 0 0 0|115|hi/|unfinished/
+trap.elf,whole|0 0 0 0|118|hi/|trap 1 at 0x10020 value 0x10020/";
+
+const FAULTS: &str = "\
+empty.elf,whole|0 0 0 0|123||program elf 1 0/
+empty.elf,go|0 0 0 0|123||program elf 1 0/
+cut.elf,whole|0 0 0 0|123||program elf 5 0/
+compressed.elf,whole|0 0 0 0|123||program elf 3 0/
+last-byte-cut.elf,whole|0 0 0 0|123||program elf 5 211/
+into-the-region.elf,whole|0 0 0 0|123||program image 5 0x10000/
+hi.elf,no end|0 0 0 0|124||script line 2 fault 5/
+hi.elf,go|0 0 0 0|124||script line 1 fault 1/
+hi.elf,number|0 0 0 0|124||script line 1 fault 2/
+hi.elf,two ends|0 0 0 0|124||script line 2 fault 6/
+hi.elf,too many|0 0 0 0|124||script line 2 fault 7/";
+
+const REFUSALS: &str = "\
+hi.elf|0 0 0 0|120||usage/
+hi.elf,whole,more|0 0 0 0|120||usage/
+none.elf,whole|0 0 0 0|121||cannot read none.elf/
+hi.elf,none|0 0 0 0|121||cannot read none/
+hi.elf,whole|1 0 0 0|121||cannot read hi.elf/
+hi.elf,whole|2 0 0 0|121||cannot read whole/
+hi.elf,whole|0 1 0 0|121||cannot read input/
+empty.elf,go|0 1 0 0|121||cannot read input/
+hi.elf,whole|0 0 1 0|122||
+hi.elf,whole|0 0 0 1|122|hi/|";
+
+fn with_newlines(alloc: Global, text: &str) -> Result<Vec<u8>, Fail> {
+    let mut bytes = text.as_bytes().to_vec(alloc)?;
+    for byte in &mut bytes {
+        if *byte == b'/' {
+            *byte = b'\n';
+        }
+    }
+    Ok(bytes)
 }
 
-fn failing(alloc: Global, number: u64) -> Result<Vec<u64>, Fail> {
+// The last line, or nothing.
+fn last(alloc: Global, text: &str) -> Result<Vec<u8>, Fail> {
+    if text.is_empty() {
+        return Ok(Vec::new(alloc));
+    }
+    let line = format!(in alloc; "ocolos: {text}")?;
+    with_newlines(alloc, line.as_str())
+}
+
+fn words_of(alloc: Global, text: &str) -> Result<Vec<String>, Fail> {
+    let mut words = Vec::new(alloc);
+    for word in text.split(',') {
+        words.push(String::from_str(alloc, word)?)?;
+    }
+    Ok(words)
+}
+
+fn failing(alloc: Global, number: Option<&str>) -> Result<Vec<u64>, Fail> {
     let mut numbers = Vec::new(alloc);
-    if number > 0 {
+    if let Ok(number) = number.unwrap_or("").parse() {
         numbers.push(number)?;
     }
     Ok(numbers)
 }
 
-fn check(rt: &(impl Abort + AllocGlobal), row: &Row) -> Result<(), Fail> {
+fn check(rt: &(impl Abort + AllocGlobal), row: &str) -> Result<(), Fail> {
     let alloc = rt.alloc();
-    let mut words = Vec::new(alloc);
-    for word in row.words {
-        words.push(String::from_str(alloc, word)?)?;
-    }
-    let mut files = MemFiles::new(disk(alloc)?, failing(alloc, row.fails[0])?);
-    let mut input = MemSource::new(Vec::new(alloc), Vec::new(alloc));
-    let mut out = MemSink::new(Vec::new(alloc), failing(alloc, row.fails[1])?);
-    let mut err = MemSink::new(Vec::new(alloc), failing(alloc, row.fails[2])?);
+    let mut fields = row.split('|');
+    let words = words_of(alloc, fields.next().unwrap_or(""))?;
+    let mut fails = fields.next().unwrap_or("").split(' ');
+    let mut files = MemFiles::new(disk(alloc)?, failing(alloc, fails.next())?);
+    let mut input = MemSource::new(Vec::new(alloc), failing(alloc, fails.next())?);
+    let mut out = MemSink::new(Vec::new(alloc), failing(alloc, fails.next())?);
+    let mut err = MemSink::new(Vec::new(alloc), failing(alloc, fails.next())?);
+    let status: u8 = fields.next().unwrap_or("").parse().unwrap_or(0);
+    let written = with_newlines(alloc, fields.next().unwrap_or(""))?;
+    let last = last(alloc, fields.next().unwrap_or(""))?;
     let answer = play(alloc, &words, &mut files, &mut input, &mut out, &mut err);
-    assert_eq!(rt; answer.status, row.status);
-    assert_eq!(rt; out.held(), row.out.as_bytes());
-    assert_eq!(rt; err.held(), row.err.as_bytes());
+    assert_eq!(rt; answer.status, status, "{row}");
+    assert_eq!(rt; out.held(), written.as_slice(), "{row}");
+    assert_eq!(rt; err.held(), last.as_slice(), "{row}");
     Ok(())
 }
-
-// A guest that writes nothing: the status and the last line of its run of 100 steps.
-fn check_end(
-    rt: &(impl Abort + AllocGlobal),
-    name: &str,
-    status: u8,
-    last: &str,
-) -> Result<(), Fail> {
-    let alloc = rt.alloc();
-    let mut words = Vec::new(alloc);
-    words.push(String::from_str(alloc, name)?)?;
-    words.push(String::from_str(alloc, "whole")?)?;
-    let mut files = MemFiles::new(disk(alloc)?, Vec::new(alloc));
-    let mut input = MemSource::new(Vec::new(alloc), Vec::new(alloc));
-    let mut out = MemSink::new(Vec::new(alloc), Vec::new(alloc));
-    let mut err = MemSink::new(Vec::new(alloc), Vec::new(alloc));
-    let answer = play(alloc, &words, &mut files, &mut input, &mut out, &mut err);
-    assert_eq!(rt; answer.status, status);
-    assert!(rt; out.held().is_empty());
-    assert_eq!(rt; err.held(), last.as_bytes());
-    Ok(())
-}
-
-const RUNS: [Row; 7] = [
-    Row {
-        words: &["hi.elf", "whole"],
-        fails: [0, 0, 0],
-        status: 0,
-        out: "hi\n",
-        err: "ocolos: exit 0\n",
-    },
-    Row {
-        words: &["hi.elf", "no newline"],
-        fails: [0, 0, 0],
-        status: 0,
-        out: "hi\n",
-        err: "ocolos: exit 0\n",
-    },
-    Row {
-        words: &["hi.elf", "most"],
-        fails: [0, 0, 0],
-        status: 0,
-        out: "hi\n",
-        err: "ocolos: exit 0\n",
-    },
-    Row {
-        words: &["hi.elf", "four"],
-        fails: [0, 0, 0],
-        status: 115,
-        out: "",
-        err: "ocolos: unfinished\n",
-    },
-    Row {
-        words: &["branch.elf", "whole"],
-        fails: [0, 0, 0],
-        status: 115,
-        out: "hi\n",
-        err: "ocolos: unfinished\n",
-    },
-    Row {
-        words: &["trap.elf", "whole"],
-        fails: [0, 0, 0],
-        status: 118,
-        out: "hi\n",
-        err: "ocolos: trap 1 at 0x10020 value 0x10020\n",
-    },
-    Row {
-        words: &["hi.elf", "whole"],
-        fails: [0, 0, 1],
-        status: 122,
-        out: "hi\n",
-        err: "",
-    },
-];
-
-// Guests that need more than a few instructions: what they exit with, or what the monitor says of them.
-const LINKS: [(&str, u8, &str); 8] = [
-    ("countdown.elf", 28, "ocolos: exit 28\n"),
-    ("byte.elf", 8, "ocolos: exit 8\n"),
-    ("added.elf", 119, "ocolos: link use 1 at 0x10004\n"),
-    ("past.elf", 119, "ocolos: link use 6 at 0x10004\n"),
-    (
-        "forged.elf",
-        118,
-        "ocolos: trap 1 at 0x10004 value 0x12000\n",
-    ),
-    ("far call.elf", 114, "ocolos: landing at 0x10010\n"),
-    ("status.elf", 119, "ocolos: link use 5 at 0x1000c\n"),
-    ("name.elf", 103, "ocolos: exit 103\n"),
-];
-
-const FAULTS: [Row; 6] = [
-    Row {
-        words: &["empty.elf", "whole"],
-        fails: [0, 0, 0],
-        status: 123,
-        out: "",
-        err: "ocolos: program elf 1 0\n",
-    },
-    Row {
-        words: &["cut.elf", "whole"],
-        fails: [0, 0, 0],
-        status: 123,
-        out: "",
-        err: "ocolos: program elf 5 0\n",
-    },
-    Row {
-        words: &["compressed.elf", "whole"],
-        fails: [0, 0, 0],
-        status: 123,
-        out: "",
-        err: "ocolos: program elf 3 0\n",
-    },
-    Row {
-        words: &["cut at the end.elf", "whole"],
-        fails: [0, 0, 0],
-        status: 123,
-        out: "",
-        err: "ocolos: program elf 5 211\n",
-    },
-    Row {
-        words: &["into the region.elf", "whole"],
-        fails: [0, 0, 0],
-        status: 123,
-        out: "",
-        err: "ocolos: program image 5 0x10000\n",
-    },
-    Row {
-        words: &["empty.elf", "till"],
-        fails: [0, 0, 0],
-        status: 123,
-        out: "",
-        err: "ocolos: program elf 1 0\n",
-    },
-];
-
-const REFUSALS: [Row; 9] = [
-    Row {
-        words: &["hi.elf", "till"],
-        fails: [0, 0, 0],
-        status: 111,
-        out: "",
-        err: "ocolos: early\n",
-    },
-    Row {
-        words: &["hi.elf", "too many"],
-        fails: [0, 0, 0],
-        status: 111,
-        out: "",
-        err: "ocolos: early\n",
-    },
-    Row {
-        words: &["hi.elf"],
-        fails: [0, 0, 0],
-        status: 120,
-        out: "",
-        err: "ocolos: usage\n",
-    },
-    Row {
-        words: &["hi.elf", "whole", "more"],
-        fails: [0, 0, 0],
-        status: 120,
-        out: "",
-        err: "ocolos: usage\n",
-    },
-    Row {
-        words: &["none.elf", "whole"],
-        fails: [0, 0, 0],
-        status: 121,
-        out: "",
-        err: "ocolos: cannot read none.elf\n",
-    },
-    Row {
-        words: &["hi.elf", "none"],
-        fails: [0, 0, 0],
-        status: 121,
-        out: "",
-        err: "ocolos: cannot read none\n",
-    },
-    Row {
-        words: &["hi.elf", "whole"],
-        fails: [1, 0, 0],
-        status: 121,
-        out: "",
-        err: "ocolos: cannot read hi.elf\n",
-    },
-    Row {
-        words: &["hi.elf", "whole"],
-        fails: [2, 0, 0],
-        status: 121,
-        out: "",
-        err: "ocolos: cannot read whole\n",
-    },
-    Row {
-        words: &["hi.elf", "whole"],
-        fails: [0, 1, 0],
-        status: 122,
-        out: "",
-        err: "",
-    },
-];
 
 #[test]
 fn runs_deliver_what_the_guest_wrote(rt: HostRuntime) -> Result<(), Fail> {
-    for row in &RUNS {
+    for row in RUNS.lines() {
         check(&rt, row)?;
     }
     Ok(())
 }
 
 #[test]
-fn links_may_be_moved_and_jumped_through_alone(rt: HostRuntime) -> Result<(), Fail> {
-    for (name, status, last) in LINKS {
-        check_end(&rt, name, status, last)?;
+fn a_program_or_a_script_with_a_fault_is_refused_by_it(rt: HostRuntime) -> Result<(), Fail> {
+    for row in FAULTS.lines() {
+        check(&rt, row)?;
     }
     Ok(())
 }
 
 #[test]
 fn refusals_name_their_cause(rt: HostRuntime) -> Result<(), Fail> {
-    for row in &REFUSALS {
+    for row in REFUSALS.lines() {
         check(&rt, row)?;
     }
     Ok(())
 }
 
-#[test]
-fn a_program_with_a_fault_is_refused_by_it(rt: HostRuntime) -> Result<(), Fail> {
-    for row in &FAULTS {
-        check(&rt, row)?;
-    }
-    Ok(())
-}
-
-#[test]
-fn a_program_past_its_limit_is_too_long(rt: HostRuntime) -> Result<(), Fail> {
+// A call with a program and an input of these lengths: its status and its line.
+fn check_long(
+    rt: &(impl Abort + AllocGlobal),
+    lengths: (usize, usize),
+    status: u8,
+    line: &str,
+) -> Result<(), Fail> {
     let alloc = rt.alloc();
-    let mut files = Vec::new(alloc);
-    let bytes = vec![in alloc; 0u8; PROGRAM_LIMIT + 1]?;
+    let mut files = disk(alloc)?;
+    let bytes = vec![in alloc; 0u8; lengths.0]?;
     files.push(named(alloc, "long.elf", bytes)?)?;
     let mut files = MemFiles::new(files, Vec::new(alloc));
-    let mut input = MemSource::new(Vec::new(alloc), Vec::new(alloc));
+    let bytes = vec![in alloc; 0u8; lengths.1]?;
+    let mut input = MemSource::new(bytes, Vec::new(alloc));
     let mut out = MemSink::new(Vec::new(alloc), Vec::new(alloc));
     let mut err = MemSink::new(Vec::new(alloc), Vec::new(alloc));
-    let mut words = Vec::new(alloc);
-    words.push(String::from_str(alloc, "long.elf")?)?;
-    words.push(String::from_str(alloc, "whole")?)?;
+    let words = words_of(alloc, "long.elf,whole")?;
     let answer = play(alloc, &words, &mut files, &mut input, &mut out, &mut err);
-    assert_eq!(&rt; answer.status, 126);
-    assert_eq!(&rt; err.held(), "ocolos: too long long.elf\n".as_bytes());
+    assert_eq!(rt; answer.status, status);
+    assert_eq!(rt; err.held(), line.as_bytes());
     Ok(())
+}
+
+#[test]
+fn what_is_past_its_limit_is_too_long(rt: HostRuntime) -> Result<(), Fail> {
+    check_long(
+        &rt,
+        (PROGRAM_LIMIT + 1, 0),
+        126,
+        "ocolos: too long long.elf\n",
+    )?;
+    check_long(&rt, (0, INPUT_LIMIT + 1), 126, "ocolos: too long input\n")?;
+    check_long(&rt, (0, INPUT_LIMIT), 123, "ocolos: program elf 1 0\n")
 }

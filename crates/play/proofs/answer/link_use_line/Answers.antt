@@ -1,6 +1,0 @@
-use Rattle.std.proofs.Common.{append_assoc}
-use Rattle.std.proofs.lemmas.Result.{IfOk-weaker}
-use Rattle.play.proofs.answer.link_use_line.Goals as goal
-
-pub returns : goal.returns
-returns c = IfOk-weaker c.format.result _ _ (λ line is. simp (append_assoc) (simp (c.in_ok-pc.ensures) at is)) c.format.ensures.ok

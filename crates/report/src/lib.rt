@@ -1,0 +1,12 @@
+//! How a call that runs a program ends: what it reads, why it refuses, what it answers, and what it writes.
+#![tactic(auto)]
+
+pub mod answer;
+pub mod line;
+pub mod reading;
+#[cfg(test)]
+mod tests;
+pub mod writing;
+
+/// The most bytes of an input.
+pub const INPUT_LIMIT: usize = 16777216;
