@@ -1,3 +1,4 @@
 pub mod Decided
 pub mod Ended
+pub mod Kept
 pub mod OneDecision

@@ -1,5 +1,5 @@
 -- Why a call ended as it did, and what it has written by then.
-use Rattle.std.specs.Prelude.{◌≡◌, ◌≢◌, ◌⊎◌, ℕ, List, [], ◌∷◌, Option, Result, Ok, Err}
+use Rattle.std.specs.Prelude.{◌≡◌, ◌≢◌, ◌⊎◌, ℕ, List, [], ◌∷◌, Option, Some, None, Result, Ok, Err}
 use Rattle.std.specs.Option.{ForSome}
 use Rattle.oc_base.specs.Outside.{Disk, gained, GainedPart, HasNow, SameElsewhere, TakeFailed}
 use Rattle.guest_gen.specs.declared.answer.MadeWhat.{MadeWhat}
@@ -7,8 +7,11 @@ use Rattle.guest_gen.specs.declared.answer.MadeWhat.TheVariants as made
 use Rattle.guest_gen.specs.declared.decision.NewFile.{NewFile}
 use Rattle.guest_gen.specs.declared.decision.Refusal.{Refusal}
 use Rattle.guest_gen.specs.declared.decision.Refusal.TheVariants.{Usage, ReadFault, NoMemory}
+use Rattle.guest_gen.specs.declared.words.Form.{Form}
+use Rattle.guest_gen.specs.declared.words.Form.TheVariants.{Assemble, Generate}
 use Rattle.guest_gen.specs.Answer.{what_of, line_of}
-use Rattle.guest_gen.specs.Decision.{form_of, Decides}
+use Rattle.guest_gen.specs.Words.{form_of, inputs_of, output_of}
+use Rattle.guest_gen.specs.Decision.{Decides}
 
 -- The reason of a refusal: the words (usage), the files that failed at this name (fault), or that the words and the files ask
 -- for this very refusal (is). Want of memory needs none.
@@ -23,10 +26,10 @@ abbrev pub Because : (usage : Type 0) (fault : List ℕ → Type 0) (is : Result
 Because usage fault is (Ok file) = is (Ok file)
 Because usage fault is (Err refusal) = Reason usage fault (λ r. is (Err r)) refusal
 
--- The text could not be read: its name is the first word, and the last that the files were asked for.
+-- The text could not be read: its name is the first of two words, and the last that the files were asked for.
 pub record InputFailed (words : List (List ℕ)) (name : List ℕ) (asked : Option (List (List ℕ))) (before now : ℕ) : Type 0 where
   pub output : List ℕ
-  pub first : form_of words ≡ Ok (name, output)
+  pub first : form_of words ≡ Ok (Assemble name output)
   pub failed : TakeFailed name asked before now
 
 -- This was decided: from the words, what the files tell, the names that they were asked for, and their count of faults before and now.
@@ -34,64 +37,110 @@ abbrev pub Decided : (words : List (List ℕ)) (told : Option Disk) (asked : Opt
 Decided words told asked before now decision =
     Because (form_of words ≡ Err Usage) (λ name. InputFailed words name asked before now) (λ d. ForSome told (λ disk. Decides words disk d)) decision
 
--- The file was written, and nothing else.
-pub record FileWritten (file : NewFile) (disk_was disk_now : Option Disk) (err_was err_now : Option (List ℕ)) (answer : MadeWhat) : Type 0 where
+-- nothing is said of a text's program
+abbrev pub IsQuiet : Form → NewFile → Type 0
+IsQuiet (Assemble input output) file = file.line ≡ None
+IsQuiet (Generate n output) file = Unit {0}
+
+-- The file is of this form, and the files were asked for what the form reads.
+pub record Formed (words : List (List ℕ)) (asked_was asked_now : Option (List (List ℕ))) (file : NewFile) : Type 0 where
+  pub form : Form
+  pub is : form_of words ≡ Ok form
+  pub named : file.name ≡ output_of form
+  pub quiet : IsQuiet form file
+  pub asked : asked_now ≡ gained asked_was (inputs_of form)
+
+-- what files, `out` and `err` hold, where they tell
+pub record Held : Type 0 where
+  pub disk : Option Disk
+  pub out : Option (List ℕ)
+  pub err : Option (List ℕ)
+
+abbrev pub held : Option Disk → Option (List ℕ) → Option (List ℕ) → Held
+held disk out err = record { disk = disk; out = out; err = err }
+
+-- a line came to the end of what is told, if there is one
+abbrev pub told : Option (List ℕ) → Option (List ℕ) → Option (List ℕ)
+told out None = out
+told out (Some line) = gained out line
+
+-- The file was written, and then its line.
+pub record FileWritten (file : NewFile) (was now : Held) (answer : MadeWhat) : Type 0 where
   pub ended : answer ≡ made.Done
-  pub holds : HasNow disk_was disk_now file.name file.bytes
-  pub others : SameElsewhere disk_was disk_now file.name
-  pub err : err_now ≡ err_was
+  pub holds : HasNow was.disk now.disk file.name file.bytes
+  pub others : SameElsewhere was.disk now.disk file.name
+  pub out : now.out ≡ told was.out file.line
+  pub err : now.err ≡ was.err
 
 -- The file could not be written: nothing is known of it, and nothing else was written.
-pub record FileFailed (file : NewFile) (disk_was disk_now : Option Disk) (err_was err_now : Option (List ℕ)) (fault : Type 0) (answer : MadeWhat) : Type 0 where
+pub record FileFailed (file : NewFile) (was now : Held) (fault : Type 0) (answer : MadeWhat) : Type 0 where
   pub ended : answer ≡ made.WriteFault
   pub failed : fault
-  pub others : SameElsewhere disk_was disk_now file.name
-  pub err : err_now ≡ err_was
+  pub others : SameElsewhere was.disk now.disk file.name
+  pub out : now.out ≡ was.out
+  pub err : now.err ≡ was.err
+
+-- The file was written, and its line could not be: a first part of it was.
+pub record SayingFailed (file : NewFile) (was now : Held) (fault : Type 0) (answer : MadeWhat) : Type 0 where
+  pub ended : answer ≡ made.WriteFault
+  pub failed : fault
+  pub holds : HasNow was.disk now.disk file.name file.bytes
+  pub others : SameElsewhere was.disk now.disk file.name
+  pub line : List ℕ
+  pub said : file.line ≡ Some line
+  pub out : GainedPart was.out now.out line
+  pub err : now.err ≡ was.err
+
+-- What became of a file and its line.
+abbrev pub FileEnds : NewFile → (was now : Held) (put_fault out_fault : Type 0) → MadeWhat → Type 0
+FileEnds file was now put_fault out_fault answer = FileWritten file was now answer ⊎ (FileFailed file was now put_fault answer ⊎ SayingFailed file was now out_fault answer)
 
 -- The refusal's line was written, and nothing else.
-pub record LineWritten (refusal : Refusal) (disk_was disk_now : Option Disk) (err_was err_now : Option (List ℕ)) (answer : MadeWhat) : Type 0 where
+pub record LineWritten (refusal : Refusal) (was now : Held) (answer : MadeWhat) : Type 0 where
   pub ended : answer ≡ what_of (Err refusal)
-  pub disk : disk_now ≡ disk_was
-  pub err : err_now ≡ gained err_was (line_of refusal)
+  pub disk : now.disk ≡ was.disk
+  pub out : now.out ≡ was.out
+  pub err : now.err ≡ gained was.err (line_of refusal)
 
 -- The refusal's line could not be written: a first part of it was, and nothing else.
-pub record LineFailed (refusal : Refusal) (disk_was disk_now : Option Disk) (err_was err_now : Option (List ℕ)) (fault : Type 0) (answer : MadeWhat) : Type 0 where
+pub record LineFailed (refusal : Refusal) (was now : Held) (fault : Type 0) (answer : MadeWhat) : Type 0 where
   pub ended : answer ≡ made.WriteFault
   pub failed : fault
-  pub disk : disk_now ≡ disk_was
-  pub err : GainedPart err_was err_now (line_of refusal)
+  pub disk : now.disk ≡ was.disk
+  pub out : now.out ≡ was.out
+  pub err : GainedPart was.err now.err (line_of refusal)
 
 -- All of what was decided was written.
-abbrev pub AllWritten : Result NewFile Refusal → (disk_was disk_now : Option Disk) (err_was err_now : Option (List ℕ)) → MadeWhat → Type 0
-AllWritten (Ok file) disk_was disk_now err_was err_now answer = FileWritten file disk_was disk_now err_was err_now answer
-AllWritten (Err refusal) disk_was disk_now err_was err_now answer = LineWritten refusal disk_was disk_now err_was err_now answer
+abbrev pub AllWritten : Result NewFile Refusal → (was now : Held) → MadeWhat → Type 0
+AllWritten (Ok file) was now answer = FileWritten file was now answer
+AllWritten (Err refusal) was now answer = LineWritten refusal was now answer
 
 -- It could not be written.
-abbrev pub WriteFailed : Result NewFile Refusal → (disk_was disk_now : Option Disk) (err_was err_now : Option (List ℕ)) (put_fault err_fault : Type 0) → MadeWhat → Type 0
-WriteFailed (Ok file) disk_was disk_now err_was err_now put_fault err_fault answer = FileFailed file disk_was disk_now err_was err_now put_fault answer
-WriteFailed (Err refusal) disk_was disk_now err_was err_now put_fault err_fault answer = LineFailed refusal disk_was disk_now err_was err_now err_fault answer
+abbrev pub WriteFailed : Result NewFile Refusal → (was now : Held) (put_fault out_fault err_fault : Type 0) → MadeWhat → Type 0
+WriteFailed (Ok file) was now put_fault out_fault err_fault answer = FileFailed file was now put_fault answer ⊎ SayingFailed file was now out_fault answer
+WriteFailed (Err refusal) was now put_fault out_fault err_fault answer = LineFailed refusal was now err_fault answer
 
 -- There was no room in memory, and nothing was written but a first part of the line that says so.
-pub record GaveUp (disk_was disk_now : Option Disk) (err_was err_now : Option (List ℕ)) (answer : MadeWhat) : Type 0 where
+pub record GaveUp (was now : Held) (answer : MadeWhat) : Type 0 where
   pub ended : answer ≡ made.NoMemory
-  pub disk : disk_now ≡ disk_was
-  pub err : GainedPart err_was err_now (line_of NoMemory)
+  pub disk : now.disk ≡ was.disk
+  pub out : now.out ≡ was.out
+  pub err : GainedPart was.err now.err (line_of NoMemory)
 
 -- There was room, and what was decided was written, up to a fault.
-pub record Wrote (decision : Result NewFile Refusal) (disk_was disk_now : Option Disk) (err_was err_now : Option (List ℕ)) (put_fault err_fault : Type 0) (answer : MadeWhat) : Type 0 where
+pub record Wrote (decision : Result NewFile Refusal) (was now : Held) (put_fault out_fault err_fault : Type 0) (answer : MadeWhat) : Type 0 where
   pub memory : decision ≢ Err NoMemory
-  pub up_to : AllWritten decision disk_was disk_now err_was err_now answer ⊎ WriteFailed decision disk_was disk_now err_was err_now put_fault err_fault answer
+  pub up_to : AllWritten decision was now answer ⊎ WriteFailed decision was now put_fault out_fault err_fault answer
 
 -- What became of a decision.
-abbrev pub Ends : Result NewFile Refusal → (disk_was disk_now : Option Disk) (err_was err_now : Option (List ℕ)) (put_fault err_fault : Type 0) → MadeWhat → Type 0
-Ends decision disk_was disk_now err_was err_now put_fault err_fault answer =
-    GaveUp disk_was disk_now err_was err_now answer ⊎ Wrote decision disk_was disk_now err_was err_now put_fault err_fault answer
+abbrev pub Ends : Result NewFile Refusal → (was now : Held) (put_fault out_fault err_fault : Type 0) → MadeWhat → Type 0
+Ends decision was now put_fault out_fault err_fault answer = GaveUp was now answer ⊎ Wrote decision was now put_fault out_fault err_fault answer
 
 -- Something was decided for this reason, and ended so.
-pub record Delivered (reason : Result NewFile Refusal → Type 0) (disk_was disk_now : Option Disk) (err_was err_now : Option (List ℕ)) (put_fault err_fault : Type 0) (answer : MadeWhat) : Type 0 where
+pub record Delivered (reason : Result NewFile Refusal → Type 0) (was now : Held) (put_fault out_fault err_fault : Type 0) (answer : MadeWhat) : Type 0 where
   pub decision : Result NewFile Refusal
   pub because : reason decision
-  pub ends : Ends decision disk_was disk_now err_was err_now put_fault err_fault answer
+  pub ends : Ends decision was now put_fault out_fault err_fault answer
 
 -- The answer is one that is asked for, but for a fault of a device and for want of memory.
 abbrev pub Settles : (asked : MadeWhat → Type 0) → MadeWhat → Type 0
@@ -107,7 +156,7 @@ pub record AsksFor (words : List (List ℕ)) (disk : Disk) (answer : MadeWhat) :
   pub answered : what_of decision ≡ answer
 
 -- What the words and the files ask for was written, all of it.
-pub record AllDone (words : List (List ℕ)) (disk : Disk) (disk_was disk_now : Option Disk) (err_was err_now : Option (List ℕ)) (answer : MadeWhat) : Type 0 where
+pub record AllDone (words : List (List ℕ)) (disk : Disk) (was now : Held) (answer : MadeWhat) : Type 0 where
   pub decision : Result NewFile Refusal
   pub decided : Decides words disk decision
-  pub written : AllWritten decision disk_was disk_now err_was err_now answer
+  pub written : AllWritten decision was now answer

@@ -10,7 +10,7 @@ use rv_asm::fault::AsmFault;
 pub enum MadeWhat {
     /// The program's file is written.
     Done,
-    /// The words aren't the names of a text and of the file to be written.
+    /// The words have no form of a call.
     Usage,
     /// The text could not be read.
     ReadFault,
@@ -18,7 +18,7 @@ pub enum MadeWhat {
     TooLong,
     /// The text has a fault: its first one. Want of memory is never this fault.
     Asm(AsmFault),
-    /// The file, or the line that tells of a refusal, could not be written.
+    /// The file, the line that tells of it, or the line that tells of a refusal could not be written.
     WriteFault,
     /// There was no room in memory.
     NoMemory,

@@ -10,17 +10,18 @@ use oc_base::text::Text;
 use rv_asm::fault::AsmFault;
 use std::alloc::{AllocError, Global};
 
-/// A file to be written.
+/// A file to be written, and the line that `out` is told of it, if any.
 #[derive(Debug, Drop)]
 pub struct NewFile {
     pub name: Text,
     pub bytes: Items<u8>,
+    pub line: Option<Text>,
 }
 
 /// Why no file is written.
 #[derive(Debug, Drop)]
 pub enum Refusal {
-    /// The words aren't the names of a text and of the file to be written.
+    /// The words have no form of a call.
     Usage,
     /// The text with this name could not be read.
     ReadFault(Text),

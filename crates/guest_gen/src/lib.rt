@@ -4,6 +4,10 @@
 pub mod answer;
 pub mod call;
 pub mod decision;
+pub mod generate;
+pub mod guest;
+pub mod instruction;
+pub mod words;
 
 /// The most bytes of a text.
 pub const TEXT_LIMIT: usize = 67108864;

@@ -46,29 +46,42 @@ fn split(alloc: Global, text: &str) -> Result<Vec<String>, Fail> {
     Ok(words)
 }
 
-// The words, the numbers of the calls of `files` and of `err` that fail (0: none), the status, and the line on `err`.
+// The words, the numbers of the calls of `files`, `out` and `err` that fail (0: none), the status, the line on `err`, and that
+// on `out`.
 const CALLS: &str = "\
-hi.s hi.elf|0|0|0|
-countdown.s countdown.elf|0|0|0|
-vtable.s vtable.elf|0|0|0|
---generate 7|0|0|0|
-unknown.s out|0|0|123|line 1 fault 1
-past.s out|0|0|123|line 2 fault 3
-nowhere.s out|0|0|123|line 2 fault 4
-open.s out|0|0|123|line 1 fault 6
-empty.s out|0|0|123|line 1 fault 4
-twice.s out|0|0|123|line 3 fault 5
-misplaced.s out|0|0|123|line 3 fault 7
-operands.s out|0|0|123|line 2 fault 2
-full.s out|0|0|123|line 4 fault 8
-|0|0|120|usage
-hi.s|0|0|120|usage
-hi.s hi.elf more|0|0|120|usage
---generate 7 seven.elf|0|0|120|usage
-none.s out|0|0|121|cannot read none.s
-hi.s hi.elf|1|0|121|cannot read hi.s
-hi.s hi.elf|2|0|122|
-past.s out|0|1|122|";
+hi.s hi.elf|0|0|0|0||
+countdown.s countdown.elf|0|0|0|0||
+vtable.s vtable.elf|0|1|0|0||
+--generate 7|0|0|0|0||
+--generate 7 seven.elf|0|0|0|0||generated 7 prints 126000
+--generate 0x3e8 most.elf|0|0|0|0||generated 1000 prints 18000000
+--generate 0x3E8 most.elf|0|0|0|0||generated 1000 prints 18000000
+--generate 0000000001 least.elf|0|0|0|0||generated 1 prints 18000
+unknown.s out|0|0|0|123|line 1 fault 1|
+past.s out|0|0|0|123|line 2 fault 3|
+nowhere.s out|0|0|0|123|line 2 fault 4|
+open.s out|0|0|0|123|line 1 fault 6|
+empty.s out|0|0|0|123|line 1 fault 4|
+twice.s out|0|0|0|123|line 3 fault 5|
+misplaced.s out|0|0|0|123|line 3 fault 7|
+operands.s out|0|0|0|123|line 2 fault 2|
+full.s out|0|0|0|123|line 4 fault 8|
+|0|0|0|120|usage|
+hi.s|0|0|0|120|usage|
+hi.s hi.elf more|0|0|0|120|usage|
+--generate 7 seven.elf more|0|0|0|120|usage|
+--generate 0 none.elf|0|0|0|120|usage|
+--generate 1001 more.elf|0|0|0|120|usage|
+--generate 00000000001 least.elf|0|0|0|120|usage|
+--generate 0x least.elf|0|0|0|120|usage|
+--generate 0x000000001 least.elf|0|0|0|120|usage|
+--generate -1 least.elf|0|0|0|120|usage|
+none.s out|0|0|0|121|cannot read none.s|
+hi.s hi.elf|1|0|0|121|cannot read hi.s|
+hi.s hi.elf|2|0|0|122||
+--generate 7 seven.elf|1|0|0|122||
+--generate 7 seven.elf|0|1|0|122||
+past.s out|0|0|1|122||";
 
 fn number(word: Option<&str>) -> u64 {
     word.unwrap_or("").parse().unwrap_or(0)
@@ -85,7 +98,7 @@ fn check(rt: &(impl Abort + AllocGlobal), row: &str) -> Result<(), Fail> {
     let mut texts = Vec::new(alloc);
     put_texts(alloc, &mut texts)?;
     let mut files = MemFiles::new(texts, failing(alloc, number(fields.next()))?);
-    let mut out = MemSink::new(Vec::new(alloc), Vec::new(alloc));
+    let mut out = MemSink::new(Vec::new(alloc), failing(alloc, number(fields.next()))?);
     let mut err = MemSink::new(Vec::new(alloc), failing(alloc, number(fields.next()))?);
     let made = make(alloc, &words, &mut files, &mut out, &mut err);
     assert_eq!(rt; u64::from(made.status), number(fields.next()), "{row}");
@@ -94,6 +107,11 @@ fn check(rt: &(impl Abort + AllocGlobal), row: &str) -> Result<(), Fail> {
         Some(line) => format!(in alloc; "ocolos_asm: {line}\n")?,
     };
     assert_eq!(rt; err.held(), line.as_bytes(), "{row}");
+    let line = match fields.next() {
+        Some("") | None => String::new(alloc),
+        Some(line) => format!(in alloc; "{line}\n")?,
+    };
+    assert_eq!(rt; out.held(), line.as_bytes(), "{row}");
     Ok(())
 }
 
@@ -130,27 +148,31 @@ fn sum(bytes: &[u8]) -> u64 {
     sum
 }
 
-// Of each text, its file's length and sum, as an independent assembler writes it.
-const FILES: [(&str, usize, u64); 3] = [
+// The words before the output's name, and the length and sum of the file that an independent assembler writes: for a
+// generated guest, of a text that says the same.
+const FILES: [(&str, usize, u64); 6] = [
     ("hi.s", 8832, 0x6546_38e0_bdd6_8c99),
     ("countdown.s", 4776, 0x3a54_0d1e_2d51_53e1),
     ("vtable.s", 8912, 0x82b5_12a4_eab7_4b78),
+    ("--generate 1", 9480, 0xcc41_3bf0_4781_cb9b),
+    ("--generate 7", 9480, 0xc939_00a6_3aa6_78fb),
+    ("--generate 1000", 9480, 0x46fc_3a8b_271f_a941),
 ];
 
 #[test]
 fn the_file_holds_the_program(rt: HostRuntime) -> Result<(), Fail> {
     let alloc = rt.alloc();
-    for (name, len, wanted) in FILES {
+    for (asked, len, wanted) in FILES {
         let mut texts = Vec::new(alloc);
         put_texts(alloc, &mut texts)?;
         let mut files = MemFiles::new(texts, Vec::new(alloc));
         let mut out = MemSink::new(Vec::new(alloc), Vec::new(alloc));
         let mut err = MemSink::new(Vec::new(alloc), Vec::new(alloc));
-        let words = split(alloc, format!(in alloc; "{name} out")?.as_str())?;
+        let words = split(alloc, format!(in alloc; "{asked} out")?.as_str())?;
         let made = make(alloc, &words, &mut files, &mut out, &mut err);
         assert_eq!(rt; made.status, 0);
         let bytes = files.file("out").unwrap_or(b"");
-        assert_eq!(rt; (bytes.len(), sum(bytes)), (len, wanted), "{name}");
+        assert_eq!(rt; (bytes.len(), sum(bytes)), (len, wanted), "{asked}");
     }
     Ok(())
 }

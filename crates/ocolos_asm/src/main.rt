@@ -1,4 +1,4 @@
-//! Assembles a text and writes the program's file: `ocolos_asm IN OUT`.
+//! Assembles a text, or generates a guest, and writes its file: `ocolos_asm IN OUT` or `ocolos_asm --generate N OUT`.
 #![tactic(auto)]
 
 use guest_gen::call::make;

@@ -17,7 +17,7 @@ stands_once : (v w : ℕ) (c : Code) → Stands v c → Stands w c → v ≡ w
 stands_once v w (Instruction i) a b = one_word v w i a.0 b.0 a.1 b.1
 stands_once v w (Raw x) a b = a ∙ sym b
 
-words_once : (v w : List ℕ) (codes : List Code) → AreWords v codes → AreWords w codes → v ≡ w
+pub words_once : (v w : List ℕ) (codes : List Code) → AreWords v codes → AreWords w codes → v ≡ w
 words_once [] [] [] a b = refl
 words_once [] [] (c ∷ codes) a b = refl
 words_once [] (y ∷ w) [] a b = absurd b
@@ -71,9 +71,12 @@ lists a b n c d e = (a, b, n, c, d, e)
 same_lists : (a a' b b' : List ℕ) (n n' : ℕ) (c c' d d' : List Named) (e e' : List Fixup) → a ≡ a' → b ≡ b' → n ≡ n' → c ≡ c' → d ≡ d' → e ≡ e' → lists a b n c d e ≡ lists a' b' n' c' d' e'
 same_lists a a' b b' n n' c c' d d' e e' p q r s t u = cc
 
+pub same_program : (p q : Program) → p.text ≡ q.text → p.bytes ≡ q.bytes → p.entry ≡ q.entry → p.funcs ≡ q.funcs → p.objects ≡ q.objects → p.fixups ≡ q.fixups → p ≡ q
+same_program p q words in_data start_at functions all_objects relocations =
+    made_once (lists_of p) (lists_of q) (facts_of p) (facts_of q)
+    (same_lists p.text q.text p.bytes q.bytes p.entry q.entry p.funcs q.funcs p.objects q.objects p.fixups q.fixups words in_data start_at functions all_objects relocations)
+
 pub one_program : (text : List ℕ) (p q : Program) → IsProgramOf text p → IsProgramOf text q → p ≡ q
 one_program text p q a b =
-    made_once (lists_of p) (lists_of q) (facts_of p) (facts_of q)
-    (same_lists p.text q.text p.bytes q.bytes p.entry q.entry p.funcs q.funcs p.objects q.objects p.fixups q.fixups
-    (words_once p.text q.text _ a.words b.words) (a.in_data ∙ sym b.in_data) (a.start_at ∙ sym b.start_at) (a.functions ∙ sym b.functions)
-    (a.all_objects ∙ sym b.all_objects) (a.relocations ∙ sym b.relocations))
+    same_program p q (words_once p.text q.text _ a.words b.words) (a.in_data ∙ sym b.in_data) (a.start_at ∙ sym b.start_at)
+    (a.functions ∙ sym b.functions) (a.all_objects ∙ sym b.all_objects) (a.relocations ∙ sym b.relocations)

@@ -202,8 +202,9 @@ fn word_of(code: Code) -> u32
     }
 }
 
+/// The words that stand for instructions and raw words, each in its place.
 #[tactic(auto, using(crate::proofs::Words::word_more))]
-fn words_of(alloc: Global, codes: &[Code]) -> Result<Vec<u32>, NoMemory>
+pub fn words_of(alloc: Global, codes: &[Code]) -> Result<Vec<u32>, NoMemory>
     ensures { IfOk result (λ v. AreWords v.items codes.now) }
 {
     let mut words = Vec::new(alloc);
