@@ -1,13 +1,14 @@
 -- The blocks of a function without a fault are sound.
 use Rattle.std.proofs.Common.{◌≡◌, ℕ, zero, suc, ◌+◌, ◌-◌, ◌*◌, ◌/◌, ◌%◌, ◌<◌, ◌≤◌, ◌==◌, Bool, true, false, not, List, [], ◌∷◌, ◌++◌, map, length, get_or, append_assoc, refl, sym, ◌∙◌, subst, ap, inl, inr, arith}
-use Rattle.std.specs.Prelude.{Option, Some, None, ℤ, ◌⊎◌, ◌&&◌, ◌||◌, nat_le, nat_lt, if◌then◌else◌, option_and_then, All, AllPairs, slice_get, position}
+use Rattle.std.specs.Prelude.{Option, Some, None, ℤ, ◌⊎◌, ◌≢◌, ◌&&◌, ◌||◌, nat_le, nat_lt, if◌then◌else◌, option_and_then, All, AllPairs, slice_get, position}
 use Rattle.std.specs.List.{list_any, filter_map}
 use Rattle.std.specs.Option.{option_map}
-use Rattle.std.proofs.lemmas.Bool.{eq-eqb, eqb-true, and_from, and_parts, or_left, or_right, cases_eq, le-leb, lt-ltb, leb-true, ltb-true}
+use Rattle.std.proofs.lemmas.Bool.{eq-eqb, eqb-true, and_from, and_parts, or_left, or_right, cases_eq, cases_lt, le-leb, lt-ltb, leb-true, ltb-true}
 use Rattle.std.proofs.lemmas.List.Folds.{list_any-append}
-use Rattle.std.proofs.lemmas.Option.{get_or_from_slice_get}
+use Rattle.std.proofs.lemmas.Option.{get_or_from_slice_get, slice_get_within}
 use Rattle.std.proofs.lemmas.List.Elements.{All-cons, All-weaker}
 use Rattle.std.proofs.lemmas.List.Kept.{AllPairs-cons}
+use Rattle.finite.proofs.Finding.{any_none, nowhere_any}
 use Rattle.finite.specs.First.{first_of, when}
 use Rattle.rv_isa.specs.Decoded.{decoded}
 use Rattle.rv_isa.specs.declared.instr.Instr.{Instr}
@@ -25,7 +26,7 @@ use Rattle.blocks.specs.declared.fault.Unreadable.TheVariants as why
 use Rattle.blocks.specs.Words.{word_of, word_read, addresses, places_of, words_of, falls_of}
 use Rattle.blocks.specs.Faults.{overlaps, aim_fault, read_fault, word_fault, fault_in, fault_of}
 use Rattle.blocks.specs.Blocks.{aims_at, marks, is_start, first_at, run_to, is_empty, cut, runs_in, runs_in_text, runs_of}
-use Rattle.blocks.specs.Sound.{Begins, BeginsInside, Aims, IsWord, IsRun, AreRuns, IsSound}
+use Rattle.blocks.specs.Sound.{Begins, BeginsInside, Aims, IsWord, IsRun, AreRuns, IsSound, IsAlone}
 
 -- the word at a reads, and nothing is wrong with it
 record IsClean (texts : List TextRange) (f : Func) (a : ℕ) (w : Word) : Type 0 where
@@ -342,19 +343,66 @@ words_clean texts funcs f i e =
     by_overlap None h = h
     by_overlap (Some g) h = absurd cc
 
-get_within : {X : Type 0} (xs : List X) (i : ℕ) (x : X) → slice_get xs i ≡ Some x → i < length xs
-get_within [] i x e = absurd cc
-get_within (y ∷ ys) zero x e = omega arith
-get_within (y ∷ ys) (suc i) x e = omega (arith, get_within ys i x e)
-
 -- a function without a fault has sound blocks
 pub sound : (p : Picture) (n : ℕ) (f : Func) → IsKept p → slice_get p.funcs n ≡ Some f → fault_of p n ≡ None → IsSound p.texts f (runs_of p n)
 unfolding fault_of runs_of runs_in
 sound p n f k g e =
     let d : get_or p.funcs n f ≡ f = get_or_from_slice_get p.funcs n f f g in
-    let l : n < length p.funcs = get_within p.funcs n f g in
+    let l : n < length p.funcs = slice_get_within p.funcs n f g in
     let i : IsFunc p.texts f = subst (IsFunc p.texts) d (k.funcs_fit n f l) in
     let none : fault_in p.texts p.funcs f ≡ None = subst (λ (o : Option Func). option_and_then (fault_in p.texts p.funcs) o ≡ None) g e in
     let c = words_clean p.texts p.funcs f i none in
     let rs = all_runs p.texts f (words_of p.texts f) i.whole i.some c in
-    rw g (record { words = rs; entry = entry p.texts f (words_of p.texts f) i.whole i.some c; ascend = runs_ascend p.texts f _ f.from _ f.to rs })
+    rw g (record {
+      words = rs;
+      starts = λ y a q. (
+        begins_only p.texts f (words_of p.texts f) i.whole i.some c y,
+        λ s. begins p.texts f (words_of p.texts f) i.whole i.some c y s a q,
+      );
+      entry = entry p.texts f (words_of p.texts f) i.whole i.some c;
+      ascend = runs_ascend p.texts f _ f.from _ f.to rs;
+    })
+
+apart_from : (f g : Func) → overlaps f g ≡ false → (g.from ≡ f.from → ⊥) → (g.to ≤ f.from) ⊎ (f.to ≤ g.from)
+apart_from f g e n =
+    elim (cases_lt g.from f.to) [
+      | inr l ↦ inr l
+      | inl l ↦ elim (cases_lt f.from g.to) [
+        | inr h ↦ inl h
+        | inl h ↦ absurd (both (and_from (not (g.from == f.from)) (nat_lt g.from f.to && nat_lt f.from g.to) (differ (g.from == f.from) (λ q. n (eqb-true g.from f.from q)))
+          (and_from (nat_lt g.from f.to) (nat_lt f.from g.to) (lt-ltb g.from f.to l) (lt-ltb f.from g.to h))) e)
+      ]
+    ]
+  where
+    differ : (b : Bool) → (b ≡ true → ⊥) → not b ≡ true
+    differ true h = absurd (h refl)
+    differ false h = refl
+
+-- and shares no address with another function
+pub alone : (p : Picture) (n : ℕ) (f : Func) → IsKept p → slice_get p.funcs n ≡ Some f → fault_of p n ≡ None → IsAlone p.funcs n f
+unfolding fault_of fault_in
+alone p n f k g e m h l o =
+    by_overlap (position (overlaps f) p.funcs) refl (subst (λ (x : Option Func). option_and_then (fault_in p.texts p.funcs) x ≡ None) g e)
+  where
+    m_in : m < length p.funcs
+    m_in = slice_get_within p.funcs m h l
+
+    n_in : n < length p.funcs
+    n_in = slice_get_within p.funcs n f g
+
+    m_is : (d : Func) → get_or p.funcs m d ≡ h
+    m_is d = get_or_from_slice_get p.funcs m h d l
+
+    n_is : (d : Func) → get_or p.funcs n d ≡ f
+    n_is d = get_or_from_slice_get p.funcs n f d g
+
+    other : h.from ≡ f.from → ⊥
+    other q =
+        elim (cases_lt m n) [
+          | inl a ↦ omega (arith, q, subst (λ (x : Func). x.from < f.from) (m_is f) (subst (λ (x : Func). (get_or p.funcs m f).from < x.from) (n_is f) (k.funcs_rise m n f a n_in)))
+          | inr a ↦ omega (arith, q, subst (λ (x : Func). f.from < x.from) (m_is f) (subst (λ (x : Func). x.from < (get_or p.funcs m f).from) (n_is f) (k.funcs_rise n m f (omega (arith, a, o)) m_in)))
+        ]
+
+    by_overlap : (x : Option ℕ) → position (overlaps f) p.funcs ≡ x → first_of (option_map why.Overlap x ∷ map (word_fault p.texts f) (places_of f)) ≡ None → (h.to ≤ f.from) ⊎ (f.to ≤ h.from)
+    by_overlap (Some x) q r = absurd cc
+    by_overlap None q r = apart_from f h (subst (λ (x : Func). overlaps f x ≡ false) (m_is f) (any_none (overlaps f) p.funcs m f (nowhere_any (overlaps f) p.funcs q) m_in)) other

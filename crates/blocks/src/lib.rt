@@ -3,6 +3,7 @@
 
 pub mod cut;
 pub mod fault;
+pub mod laws;
 pub mod read;
 pub mod recover;
 pub mod run;
