@@ -1,0 +1,3 @@
+pub mod FreeLaws
+pub mod Taking
+pub mod Giving
