@@ -1,9 +1,10 @@
 -- What the free ranges say of single addresses, and where n bytes fit.
-use Rattle.std.proofs.Common.{◌≡◌, ℕ, zero, suc, ◌+◌, ◌-◌, ◌<◌, ◌≤◌, max, Bool, true, false, cond, not, List, [], ◌∷◌, ◌++◌, length, refl, sym, ◌∙◌, subst, ap, inl, inr, arith}
+use Rattle.std.proofs.Common.{◌≡◌, ℕ, zero, suc, ◌+◌, ◌-◌, ◌<◌, ◌≤◌, max, Bool, true, false, cond, not, List, [], ◌∷◌, ◌++◌, length, take, get_or, refl, sym, ◌∙◌, subst, ap, inl, inr, arith}
 use Rattle.std.specs.Prelude.{Option, Some, None, ◌⊎◌, ◌↔◌, ◌&&◌, ◌||◌, nat_le, nat_lt, find, position, is_some, IfSome, IsNone, All, if◌then◌else◌}
 use Rattle.std.specs.Option.{option_map}
 use Rattle.std.specs.List.{list_any, position_or_len}
 use Rattle.std.proofs.lemmas.Bool.{and_parts, and_from, or_cases, or_left, leb-true, ltb-true, ltb-false, leb-false, le-leb, lt-leb, lt-ltb, or_right, cases_lt}
+use Rattle.std.proofs.lemmas.List.{take_more}
 use Rattle.std.proofs.lemmas.List.Elements.{All-nil, All-cons}
 use Rattle.finite.proofs.Finding.{place_of, none_by_cond}
 use Rattle.oc_base.specs.declared.range.Range.{Range}
@@ -131,6 +132,9 @@ largest_fits (r ∷ rs) n p = by_test (holds n r) refl (largest_fits rs n p)
 pub largest_push : (rs : List Range) (r : Range) → largest (rs ++ r ∷ []) ≡ max (size r) (largest rs)
 largest_push [] r = refl
 largest_push (s ∷ rs) r = let e = largest_push rs r in omega (arith, e)
+
+pub largest_more : (rs : List Range) (i : ℕ) (d : Range) → i < length rs → largest (take (i + 1) rs) ≡ max (size (get_or rs i d)) (largest (take i rs))
+largest_more rs i d l = rw (take_more rs i d l) (largest_push (take i rs) (get_or rs i d))
 
 pub place_found : {X : Type 0} (p : X → Bool) (xs : List X) (i : ℕ) → Some i ≡ position p xs → i ≡ position_or_len p xs
 place_found p xs i e = sym (place_of p xs i (sym e))

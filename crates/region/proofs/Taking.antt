@@ -1,5 +1,5 @@
 -- A part is taken out of the range that holds it.
-use Rattle.std.proofs.Common.{◌≡◌, ℕ, zero, suc, ◌+◌, ◌-◌, ◌<◌, ◌≤◌, Bool, true, false, cond, not, List, [], ◌∷◌, ◌++◌, length, take, drop, get_or, append_assoc, refl, sym, ◌∙◌, subst, ap, inl, inr, arith}
+use Rattle.std.proofs.Common.{◌≡◌, ℕ, zero, suc, ◌+◌, ◌-◌, ◌<◌, ◌≤◌, Bool, true, false, cond, not, List, [], ◌∷◌, ◌++◌, length, take, drop, set, get_or, append_assoc, refl, sym, ◌∙◌, subst, ap, inl, inr, arith}
 use Rattle.std.specs.Prelude.{◌⊎◌, ◌↔◌, ◌&&◌, ◌||◌, nat_le, nat_lt, if◌then◌else◌}
 use Rattle.std.specs.List.{list_any, flat_map, position_or_len}
 use Rattle.std.proofs.lemmas.Bool.{and_parts, and_from, or_cases, or_left, or_right, leb-true, ltb-true, le-leb, lt-ltb, lt-leb, cases_lt}
@@ -114,13 +114,16 @@ length_front (x ∷ xs) y ys = omega (arith, length_front xs y ys)
 -- what `take` does at a place
 pub record Took (rs : List Range) (at n i low high : ℕ) : Type 0 where
   pub within : i < length rs
-  pub high_end : at + n ≤ high
+  pub ends : (d : Range) → at + n ≤ (get_or rs i d).to
   pub is : (d : Range) → take i rs ++ ((piece (get_or rs i d).from at ++ piece (at + n) (get_or rs i d).to) ++ drop (i + 1) rs) ≡ taken at (at + n) rs
   pub rises : Rises low high (taken at (at + n) rs)
 
 front_is : (at to : ℕ) (rs xs : List Range) (r : Range) (ys : List Range) (i : ℕ) (d : Range) → rs ≡ xs ++ r ∷ ys → i ≡ length xs
     → take i rs ++ ((piece (get_or rs i d).from at ++ piece to (get_or rs i d).to) ++ drop (i + 1) rs) ≡ xs ++ ((piece r.from at ++ piece to r.to) ++ ys)
 front_is at to rs xs r ys i d e p = rw (p, e, take_front xs (r ∷ ys), get_front xs r ys d, drop_front xs r ys) refl
+
+end_is : (rs xs : List Range) (r : Range) (ys : List Range) (i : ℕ) (d : Range) (to : ℕ) → rs ≡ xs ++ r ∷ ys → i ≡ length xs → to ≤ r.to → to ≤ (get_or rs i d).to
+end_is rs xs r ys i d to e p l = rw (p, e, get_front xs r ys d) l
 
 taken_is : (at to : ℕ) (rs : List Range) → at < to → taken at to rs ≡ flat_map (without at to) rs
 unfolding taken
@@ -136,7 +139,7 @@ took low high rs at n h p f =
     let within : position_or_len (λ r. nat_lt at r.to) rs < length rs = omega (arith, d.place, length_front d.before d.one d.after, ap (λ (xs : List Range). length xs) d.is) in
     record {
       within = within;
-      high_end = omega (arith, p, below low high rs (at + n - 1) h (f (at + n - 1) (omega (arith, p)) (omega (arith, p))));
+      ends = λ x. end_is rs d.before d.one d.after (position_or_len (λ r. nat_lt at r.to) rs) x (at + n) d.is d.place d.ends;
       is = λ x. front_is at (at + n) rs d.before d.one d.after (position_or_len (λ r. nat_lt at r.to) rs) x d.is d.place ∙ sym c;
       rises = subst (Rises low high) (sym c) (cut_rises at (at + n) low high d.before d.one d.after g d.starts l d.ends);
     }
@@ -243,3 +246,32 @@ none_addresses rs at a = (λ e. (e, beside (cases_lt a at)), λ q. q.0)
     beside : (a < at) ⊎ (at ≤ a) → (a < at) ⊎ (at + 0 ≤ a)
     beside (inl l) = inl l
     beside (inr l) = inr (omega (arith, l))
+
+-- ---- changes at a place
+
+pub set_is : {X : Type 0} (xs : List X) (i : ℕ) (y : X) → i < length xs → set xs i y ≡ take i xs ++ y ∷ drop (i + 1) xs
+set_is [] i y l = absurd (omega (arith, l))
+set_is (x ∷ xs) zero y l = refl
+set_is (x ∷ xs) (suc i) y l = let e : suc i + 1 ≡ suc (i + 1) = omega arith in rw e (ap (λ zs. x ∷ zs) (set_is xs i y (omega (arith, l))))
+
+-- two elements in the place of one: the second is put in behind the first
+pub two_for_one : {X : Type 0} (xs ys : List X) (i : ℕ) (a b : X) → i < length xs → ys ≡ take i xs ++ a ∷ drop (i + 1) xs
+    → take (i + 1) ys ++ b ∷ drop (i + 1) ys ≡ take i xs ++ a ∷ b ∷ drop (i + 1) xs
+two_for_one [] ys i a b l e = absurd (omega (arith, l))
+two_for_one (x ∷ xs) ys zero a b l e = rw e refl
+two_for_one (x ∷ xs) ys (suc i) a b l e =
+    let q : suc i + 1 ≡ suc (i + 1) = omega arith in
+    let f : ys ≡ x ∷ (take i xs ++ a ∷ drop (i + 1) xs) = e ∙ rw q refl in
+    rw (q, f) (ap (λ zs. x ∷ zs) (two_for_one xs (take i xs ++ a ∷ drop (i + 1) xs) i a b (omega (arith, l)) refl))
+
+get_or_same : {X : Type 0} (xs : List X) (i : ℕ) (d e : X) → i < length xs → get_or xs i d ≡ get_or xs i e
+get_or_same [] i d e l = absurd (omega (arith, l))
+get_or_same (x ∷ xs) zero d e l = refl
+get_or_same (x ∷ xs) (suc i) d e l = get_or_same xs i d e (omega (arith, l))
+
+pub cut_in_two : (rs ys zs : List Range) (i from to : ℕ) (r d : Range) → i < length rs → r ≡ get_or rs i r → r.from < from → to < r.to
+    → ys ≡ take i rs ++ range r.from from ∷ drop (i + 1) rs → zs ≡ take (i + 1) ys ++ range to r.to ∷ drop (i + 1) ys
+    → zs ≡ take i rs ++ ((piece (get_or rs i d).from from ++ piece to (get_or rs i d).to) ++ drop (i + 1) rs)
+cut_in_two rs ys zs i from to r d l e p q f g =
+    let same : get_or rs i d ≡ r = get_or_same rs i d r l ∙ sym e in
+    rw (same, lt-ltb r.from from p, lt-ltb to r.to q) (g ∙ two_for_one rs ys i (range r.from from) (range to r.to) l f)

@@ -22,7 +22,7 @@ pub struct Region {
 
 impl Model for Region {
     ghost use Rattle.std.specs.Prelude.{◌≤◌, ◌+◌, length};
-    ghost use Rattle.std.specs.Vec.{vec_len, vec_capacity};
+    ghost use Rattle.std.specs.Vec.{vec_capacity};
     ghost use Rattle.region.specs.Free.{Rises};
     ghost use Rattle.region.specs.Space.{Space};
 
@@ -32,7 +32,7 @@ impl Model for Region {
 
     ghost invariant = { λ r. record {
       order : Rises r.all.from r.all.to r.free.items;
-      room : vec_len r.free + r.spare ≤ vec_capacity r.free;
+      room : length r.free.items + r.spare ≤ vec_capacity r.free;
     } };
 }
 
@@ -103,7 +103,7 @@ impl Region {
         self.spare -= 1;
         if n != 0 {
             let i = place_ending_behind(&self.free, at);
-            cut_out(&mut self.free, i, at, at + n);
+            cut_out(&mut self.free, i, at, n);
         }
     }
 
