@@ -1,6 +1,6 @@
 -- Parts without a fault are a plan.
 use Rattle.std.proofs.Common.{◌≡◌, ℕ, zero, suc, ◌+◌, ◌<◌, ◌==◌, Bool, true, false, not, List, [], ◌∷◌, ◌++◌, map, length, get_or, take, drop, take-append-drop, inl, inr, refl, sym, ◌∙◌, subst, ap, arith}
-use Rattle.std.specs.Prelude.{Option, Some, None, ◌&&◌, ◌||◌, ◌≢◌, nat_lt, All, AllPairs}
+use Rattle.std.specs.Prelude.{None, ◌&&◌, ◌||◌, ◌≢◌, nat_lt, All, AllPairs}
 use Rattle.std.specs.List.{list_any, list_all, range_with_len}
 use Rattle.std.proofs.lemmas.Bool.{cases_eq, and_from, lt-ltb, eqb-true, eq-eqb, ltb-true, and_parts, or_left, or_right}
 use Rattle.std.proofs.lemmas.List.{get_or-map, length-map, take_more}
@@ -13,7 +13,6 @@ use Rattle.finite.proofs.Searching.{tail_pairs}
 use Rattle.finite.proofs.Finding.{any_none, not_passed}
 use Rattle.image.specs.Picture.{Picture}
 use Rattle.plans.specs.declared.plan.Moved.{Moved}
-use Rattle.plans.specs.declared.plan.PlanFault.{PlanFault}
 use Rattle.plans.specs.declared.plan.PlanFault.TheVariants as why
 use Rattle.plans.specs.Orders.{is_among, repeats, is_order, IsOrder}
 use Rattle.plans.specs.Plans.{moved_func, IsPlan}
@@ -80,7 +79,7 @@ apart (x ∷ xs) e =
 funcs_apart : (parts : List Moved) → AllPairs (λ x y. x ≢ y) (map moved_func parts) → AllPairs (λ m n. m.func ≢ n.func) parts
 funcs_apart parts a i j d l k =
     subst (λ (x : ℕ). x ≢ (get_or parts j d).func) (get_or-map moved_func parts i d (moved_func d) (omega (arith, l, k)))
-      (subst (λ (y : ℕ). get_or (map moved_func parts) i (moved_func d) ≢ y) (get_or-map moved_func parts j d (moved_func d) k) (a i j (moved_func d) l (rw (length-map parts moved_func) k)))
+    (subst (λ (y : ℕ). get_or (map moved_func parts) i (moved_func d) ≢ y) (get_or-map moved_func parts j d (moved_func d) k) (a i j (moved_func d) l (rw (length-map parts moved_func) k)))
 
 -- parts without a fault: what they are
 pub planned : (p : Picture) (parts : List Moved) → plan_fault p parts ≡ None → IsPlanOf p parts
@@ -176,22 +175,22 @@ each_all : (p : ℕ → Bool) (a n : ℕ) → ((j : ℕ) → j < n → p (a + j)
 each_all p a zero h = refl
 each_all p a (suc n) h =
     and_from (p a) (list_all p (range_with_len (a + 1) n)) (subst (λ (i : ℕ). p i ≡ true) (omega arith) (h 0 (omega arith)))
-      (each_all p (a + 1) n (λ j l. subst (λ (i : ℕ). p i ≡ true) (omega arith) (h (suc j) (omega (arith, l)))))
+    (each_all p (a + 1) n (λ j l. subst (λ (i : ℕ). p i ≡ true) (omega arith) (h (suc j) (omega (arith, l)))))
 
 order_passes : (k : ℕ) (order : List ℕ) → IsOrder k order → is_order k order ≡ true
 unfolding is_order
 order_passes k order o =
     and_from _ _ (eq-eqb (length order) k o.size)
-      (and_from _ _ (list_all-from_AllPass (λ x. nat_lt x k) order (λ i d l. lt-ltb (get_or order i d) k (o.below i d l)))
-        (and_from _ _ (rw (o.once) refl) (each_all (is_among order) 0 k (λ j l. subst (λ (i : ℕ). is_among order i ≡ true) (omega arith) (o.each j l)))))
+    (and_from _ _ (list_all-from_AllPass (λ x. nat_lt x k) order (λ i d l. lt-ltb (get_or order i d) k (o.below i d l)))
+    (and_from _ _ (rw (o.once) refl) (each_all (is_among order) 0 k (λ j l. subst (λ (i : ℕ). is_among order i ≡ true) (omega arith) (o.each j l)))))
 
 no_repeat : (parts : List Moved) → AllPairs (λ m n. m.func ≢ n.func) parts → repeats (map moved_func parts) ≡ false
 no_repeat [] a = refl
 no_repeat (m ∷ ms) a =
     rw (list_any_none (λ o. o == m.func) (map moved_func ms)
-      (All-map (λ o. (o == m.func) ≡ false) moved_func ms
-        (λ i d l. not_passed ((get_or ms i d).func == m.func) (λ e. a 0 (suc i) d (omega arith) (omega (arith, l)) (sym (eqb-true (get_or ms i d).func m.func e))))))
-      (no_repeat ms (tail_pairs (λ m n. m.func ≢ n.func) m ms a))
+    (All-map (λ o. (o == m.func) ≡ false) moved_func ms
+    (λ i d l. not_passed ((get_or ms i d).func == m.func) (λ e. a 0 (suc i) d (omega arith) (omega (arith, l)) (sym (eqb-true (get_or ms i d).func m.func e))))))
+    (no_repeat ms (tail_pairs (λ m n. m.func ≢ n.func) m ms a))
 
 -- such parts have no fault
 pub accepted : (p : Picture) (parts : List Moved) → IsPlanOf p parts → plan_fault p parts ≡ None

@@ -1,14 +1,14 @@
 -- What the free ranges say of single addresses, and where n bytes fit.
-use Rattle.std.proofs.Common.{◌≡◌, ℕ, zero, suc, ◌+◌, ◌-◌, ◌<◌, ◌≤◌, max, Bool, true, false, cond, not, List, [], ◌∷◌, ◌++◌, length, take, get_or, refl, sym, ◌∙◌, subst, ap, inl, inr, arith}
-use Rattle.std.specs.Prelude.{Option, Some, None, ◌⊎◌, ◌↔◌, ◌&&◌, ◌||◌, nat_le, nat_lt, find, position, is_some, IfSome, IsNone, All, if◌then◌else◌}
+use Rattle.std.proofs.Common.{◌≡◌, ℕ, suc, ◌+◌, ◌<◌, ◌≤◌, max, Bool, true, false, cond, not, List, [], ◌∷◌, ◌++◌, length, take, get_or, refl, sym, ◌∙◌, inl, inr, arith}
+use Rattle.std.specs.Prelude.{Option, Some, None, ◌⊎◌, ◌↔◌, nat_le, nat_lt, find, position, is_some, IsNone, All, if◌then◌else◌}
 use Rattle.std.specs.Option.{option_map}
-use Rattle.std.specs.List.{list_any, position_or_len}
+use Rattle.std.specs.List.{position_or_len}
 use Rattle.std.proofs.lemmas.Bool.{and_parts, and_from, or_cases, or_left, leb-true, ltb-true, ltb-false, leb-false, le-leb, lt-leb, lt-ltb, or_right, cases_lt}
 use Rattle.std.proofs.lemmas.List.{take_more}
 use Rattle.std.proofs.lemmas.List.Elements.{All-nil, All-cons}
 use Rattle.finite.proofs.Finding.{place_of, none_by_cond}
 use Rattle.oc_base.specs.declared.range.Range.{Range}
-use Rattle.region.specs.Free.{range, size, is_in, is_free, AreFree, Rises, holds, range_from, fit, largest}
+use Rattle.region.specs.Free.{size, is_in, is_free, AreFree, Rises, holds, range_from, fit, largest}
 
 pub in_true : (a : ℕ) (r : Range) → is_in a r ≡ true → (r.from ≤ a) × (a < r.to)
 in_true a r e = let p = and_parts (nat_le r.from a) (nat_lt a r.to) e in (leb-true r.from a p.0, ltb-true a r.to p.1)

@@ -1,8 +1,8 @@
 -- A part is put among free ranges, with its neighbours.
-use Rattle.std.proofs.Common.{◌≡◌, ℕ, zero, suc, ◌+◌, ◌-◌, ◌<◌, ◌≤◌, ◌==◌, Bool, true, false, cond, not, List, [], ◌∷◌, ◌++◌, length, take, drop, refl, sym, ◌∙◌, subst, ap, inl, inr, arith}
+use Rattle.std.proofs.Common.{◌≡◌, ℕ, suc, ◌+◌, ◌<◌, ◌≤◌, ◌==◌, Bool, true, false, cond, not, List, [], ◌∷◌, ◌++◌, take, drop, refl, sym, ◌∙◌, ap, inl, inr, arith}
 use Rattle.std.specs.Prelude.{◌⊎◌, ◌↔◌, ◌&&◌, ◌||◌, nat_le, nat_lt, if◌then◌else◌}
-use Rattle.std.specs.List.{list_any, position_or_len}
-use Rattle.std.proofs.lemmas.Bool.{and_from, or_cases, or_left, or_right, cases_eq, eqb-true, eq-eqb, leb-true, leb-false, ltb-true, le-leb, lt-ltb, cases_lt}
+use Rattle.std.specs.List.{position_or_len}
+use Rattle.std.proofs.lemmas.Bool.{or_cases, or_left, or_right, cases_eq, eqb-true, eq-eqb, leb-true, ltb-true, le-leb, lt-ltb, cases_lt}
 use Rattle.finite.proofs.Finding.{not_passed}
 use Rattle.oc_base.specs.declared.range.Range.{Range}
 use Rattle.region.specs.Free.{range, is_in, is_free, Rises, put_before, put_here, put_in, given}
@@ -53,12 +53,12 @@ here_rises : (r s : Range) (low high : ℕ) (rs : List Range) → low ≤ r.from
 here_rises r s low high rs p l q h u t =
     elim (cases_eq s.to r.from) [
       | inl e ↦ rw (eq-eqb s.to r.from e)
-        (before_rises (range s.from r.to) low high rs h.0 (omega (arith, h.1, e, l)) q (behind r (s.to + 1) high rs h.3 (omega (arith, e)) l (used_rest r s rs u)))
+          (before_rises (range s.from r.to) low high rs h.0 (omega (arith, h.1, e, l)) q (behind r (s.to + 1) high rs h.3 (omega (arith, e)) l (used_rest r s rs u)))
       | inr n ↦ rw (not_passed (s.to == r.from) (λ k. n (eqb-true s.to r.from k)))
-        (before_rises r low high (s ∷ rs) p l q (elim (apart r s rs u l h.1) [
-          | inl k ↦ absurd (omega (arith, k, t, n))
-          | inr k ↦ (k, h.1, h.2, h.3)
-        ]))
+          (before_rises r low high (s ∷ rs) p l q (elim (apart r s rs u l h.1) [
+            | inl k ↦ absurd (omega (arith, k, t, n))
+            | inr k ↦ (k, h.1, h.2, h.3)
+          ]))
     ]
 
 in_rises : (r : Range) (low high : ℕ) (rs : List Range) → low ≤ r.from → r.from < r.to → r.to ≤ high → Rises low high rs → IsUsed r rs → Rises low high (put_in r rs)
@@ -98,7 +98,7 @@ before_has r high [] a l h = refl
 before_has r high (s ∷ rs) a l h =
     elim (cases_eq r.to s.from) [
       | inl e ↦ rw (eq-eqb r.to s.from e) (ap (λ (b : Bool). b || is_free rs a) (joined r.from r.to s.to a (omega (arith, l)) (omega (arith, e, h.1)) ∙ ap (λ (y : ℕ). is_in a r || is_in a (range y s.to)) e)
-        ∙ or_assoc (is_in a r) (is_in a s) (is_free rs a))
+          ∙ or_assoc (is_in a r) (is_in a s) (is_free rs a))
       | inr n ↦ rw (not_passed (r.to == s.from) (λ t. n (eqb-true r.to s.from t))) refl
     ]
 
@@ -107,14 +107,14 @@ here_has : (r s : Range) (low high : ℕ) (rs : List Range) (a : ℕ) → r.from
 here_has r s low high rs a l h u t =
     elim (cases_eq s.to r.from) [
       | inl e ↦ rw (eq-eqb s.to r.from e)
-        (before_has (range s.from r.to) high rs a (omega (arith, h.1, e, l)) (behind r (s.to + 1) high rs h.3 (omega (arith, e)) l (used_rest r s rs u))
-        ∙ ap (λ (b : Bool). b || is_free rs a) (joined s.from s.to r.to a (omega (arith, h.1)) (omega (arith, e, l)) ∙ ap (λ (y : ℕ). is_in a s || is_in a (range y r.to)) e)
-        ∙ or_assoc (is_in a s) (is_in a r) (is_free rs a) ∙ or_turn (is_in a s) (is_in a r) (is_free rs a))
+          (before_has (range s.from r.to) high rs a (omega (arith, h.1, e, l)) (behind r (s.to + 1) high rs h.3 (omega (arith, e)) l (used_rest r s rs u))
+          ∙ ap (λ (b : Bool). b || is_free rs a) (joined s.from s.to r.to a (omega (arith, h.1)) (omega (arith, e, l)) ∙ ap (λ (y : ℕ). is_in a s || is_in a (range y r.to)) e)
+          ∙ or_assoc (is_in a s) (is_in a r) (is_free rs a) ∙ or_turn (is_in a s) (is_in a r) (is_free rs a))
       | inr n ↦ rw (not_passed (s.to == r.from) (λ k. n (eqb-true s.to r.from k)))
-        (before_has r high (s ∷ rs) a l (elim (apart r s rs u l h.1) [
-          | inl k ↦ absurd (omega (arith, k, t, n))
-          | inr k ↦ (k, h.1, h.2, h.3)
-        ]))
+          (before_has r high (s ∷ rs) a l (elim (apart r s rs u l h.1) [
+            | inl k ↦ absurd (omega (arith, k, t, n))
+            | inr k ↦ (k, h.1, h.2, h.3)
+          ]))
     ]
 
 in_has : (r : Range) (low high : ℕ) (rs : List Range) (a : ℕ) → r.from < r.to → Rises low high rs → IsUsed r rs → is_free (put_in r rs) a ≡ (is_in a r || is_free rs a)
@@ -157,14 +157,16 @@ given_rises r low high rs p l q h u = rw (given_is r rs l) (in_rises r low high 
 pub given_addresses : (r : Range) (low high : ℕ) (rs : List Range) (a : ℕ) → r.from < r.to → Rises low high rs → IsUsed r rs
     → (is_free (given r rs) a ≡ true) ↔ ((is_free rs a ≡ true) ⊎ ((r.from ≤ a) × (a < r.to)))
 given_addresses r low high rs a l h u =
-    let e : is_free (given r rs) a ≡ (is_in a r || is_free rs a) = ap (λ (xs : List Range). is_free xs a) (given_is r rs l) ∙ in_has r low high rs a l h u in
-    (λ t. elim (or_cases (is_in a r) (is_free rs a) (sym e ∙ t)) [
-      | inl p ↦ inr (in_true a r p)
-      | inr p ↦ inl p
-    ], λ o. e ∙ elim o [
-      | inl p ↦ or_right (is_in a r) (is_free rs a) p
-      | inr p ↦ or_left (is_in a r) (is_free rs a) (in_is a r p.0 p.1)
-    ])
+    let e : is_free (given r rs) a ≡ (is_in a r || is_free rs a) = ap (λ (xs : List Range). is_free xs a) (given_is r rs l) ∙ in_has r low high rs a l h u in (
+      λ t. elim (or_cases (is_in a r) (is_free rs a) (sym e ∙ t)) [
+        | inl p ↦ inr (in_true a r p)
+        | inr p ↦ inl p
+      ],
+      λ o. e ∙ elim o [
+        | inl p ↦ or_right (is_in a r) (is_free rs a) p
+        | inr p ↦ or_left (is_in a r) (is_free rs a) (in_is a r p.0 p.1)
+      ],
+    )
 
 -- of no bytes nothing becomes free
 pub given_none : (r : Range) (rs : List Range) → r.from ≡ r.to → given r rs ≡ rs
@@ -172,7 +174,10 @@ unfolding given
 given_none r rs e = rw (not_passed (nat_lt r.from r.to) (λ t. omega (arith, e, ltb-true r.from r.to t))) refl
 
 pub none_given : (r : Range) (rs : List Range) (a : ℕ) → r.from ≡ r.to → (is_free rs a ≡ true) ↔ ((is_free rs a ≡ true) ⊎ ((r.from ≤ a) × (a < r.to)))
-none_given r rs a e = (λ t. inl t, λ o. elim o [
-  | inl p ↦ p
-  | inr p ↦ absurd (omega (arith, e, p))
-])
+none_given r rs a e = (
+  λ t. inl t,
+  λ o. elim o [
+    | inl p ↦ p
+    | inr p ↦ absurd (omega (arith, e, p))
+  ],
+)

@@ -1,13 +1,13 @@
 -- A part is taken out of the range that holds it.
-use Rattle.std.proofs.Common.{◌≡◌, ℕ, zero, suc, ◌+◌, ◌-◌, ◌<◌, ◌≤◌, Bool, true, false, cond, not, List, [], ◌∷◌, ◌++◌, length, take, drop, set, get_or, append_assoc, refl, sym, ◌∙◌, subst, ap, inl, inr, arith}
+use Rattle.std.proofs.Common.{◌≡◌, ℕ, zero, suc, ◌+◌, ◌<◌, ◌≤◌, Bool, true, false, List, [], ◌∷◌, ◌++◌, length, take, drop, set, get_or, refl, sym, ◌∙◌, subst, ap, inl, inr, arith}
 use Rattle.std.specs.Prelude.{◌⊎◌, ◌↔◌, ◌&&◌, ◌||◌, nat_le, nat_lt, if◌then◌else◌}
-use Rattle.std.specs.List.{list_any, flat_map, position_or_len}
-use Rattle.std.proofs.lemmas.Bool.{and_parts, and_from, or_cases, or_left, or_right, leb-true, ltb-true, le-leb, lt-ltb, lt-leb, cases_lt}
+use Rattle.std.specs.List.{flat_map, position_or_len}
+use Rattle.std.proofs.lemmas.Bool.{and_parts, and_from, or_cases, or_left, or_right, leb-true, ltb-true, le-leb, lt-ltb, cases_lt}
 use Rattle.std.proofs.lemmas.List.Folds.{list_any-append}
 use Rattle.finite.proofs.Finding.{not_passed}
 use Rattle.oc_base.specs.declared.range.Range.{Range}
 use Rattle.region.specs.Free.{range, is_in, is_free, AreFree, Rises, piece, without, taken}
-use Rattle.region.proofs.FreeLaws.{in_true, in_is, above, below, rest_free, stay_in}
+use Rattle.region.proofs.FreeLaws.{in_true, in_is, rest_free, stay_in}
 
 piece_in : (x y a : ℕ) → is_free (piece x y) a ≡ true → (x ≤ a) × (a < y)
 piece_in x y a e = by_test (nat_lt x y) e
@@ -206,7 +206,7 @@ one_left from to a r l s e = by_test (nat_le r.from from && nat_le to r.to) refl
     by_test true f e =
         let t = and_parts (nat_le r.from from) (nat_le to r.to) f in
         split (or_cases (is_free (piece r.from from) a) (is_free (piece to r.to) a) (sym (list_any-append (is_in a) (piece r.from from) (piece to r.to)) ∙ e))
-          (leb-true r.from from t.0, leb-true to r.to t.1)
+        (leb-true r.from from t.0, leb-true to r.to t.1)
     by_test false f e =
         elim (or_cases (is_in a r) false e) [
           | inl p ↦ (p, apart p s f)
@@ -218,7 +218,7 @@ was_free : (from to : ℕ) (rs : List Range) (a : ℕ) → from < to → Splits 
 was_free from to [] a l s e = absurd cc
 was_free from to (r ∷ rs) a l s e =
     by_cases (or_cases (is_free (without from to r) a) (is_free (flat_map (without from to) rs) a) (sym (list_any-append (is_in a) (without from to r) (flat_map (without from to) rs)) ∙ e))
-      (λ h. was_free from to rs a l s.1 h)
+    (λ h. was_free from to rs a l s.1 h)
   where
     by_cases : (is_free (without from to r) a ≡ true) ⊎ (is_free (flat_map (without from to) rs) a ≡ true)
         → (is_free (flat_map (without from to) rs) a ≡ true → (is_free rs a ≡ true) × ((a < from) ⊎ (to ≤ a))) → ((is_in a r || is_free rs a) ≡ true) × ((a < from) ⊎ (to ≤ a))

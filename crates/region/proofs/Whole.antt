@@ -1,6 +1,6 @@
 -- The clauses of a region's calls, over what it keeps.
-use Rattle.std.proofs.Common.{◌≡◌, ℕ, ◌+◌, ◌<◌, ◌≤◌, true, List, sym, subst}
-use Rattle.std.specs.Prelude.{Option, Some, None, IfSome, IsNone, ◌↔◌}
+use Rattle.std.proofs.Common.{◌≡◌, ℕ, ◌<◌, ◌≤◌, List, sym}
+use Rattle.std.specs.Prelude.{Option, Some, None, IfSome}
 use Rattle.oc_base.specs.declared.range.Range.{Range}
 use Rattle.region.specs.Free.{AreFree, Rises, fit}
 use Rattle.region.proofs.FreeLaws.{fit_free, fit_least}

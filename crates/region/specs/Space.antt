@@ -1,5 +1,5 @@
 -- What contracts see of the region.
-use Rattle.std.specs.Prelude.{◌≡◌, ℕ, List}
+use Rattle.std.specs.Prelude.{ℕ, List}
 use Rattle.oc_base.specs.declared.range.Range.{Range}
 use Rattle.region.specs.Free.{Rises}
 

@@ -117,10 +117,14 @@ pub fn cut_out(free: &mut Vec<Range>, i: usize, at: u64, n: u64)
     let to = r.to;
     let end = end_of(at, n, to);
     if r.from < at {
-        set(free, i, Range {
-            from: r.from,
-            to: at,
-        });
+        set(
+            free,
+            i,
+            Range {
+                from: r.from,
+                to: at,
+            },
+        );
         if end < to {
             insert(free, i + 1, Range { from: end, to });
         }
@@ -157,10 +161,14 @@ pub fn put_in(free: &mut Vec<Range>, i: usize, r: Range)
 {
     if i < free.len() && free[i].to == r.from {
         let s = free.remove(i);
-        put_before(free, i, Range {
-            from: s.from,
-            to: r.to,
-        });
+        put_before(
+            free,
+            i,
+            Range {
+                from: s.from,
+                to: r.to,
+            },
+        );
     } else {
         put_before(free, i, r);
     }

@@ -1,4 +1,4 @@
-use Rattle.std.proofs.Common.{◌≡◌, ℕ, ◌+◌, ◌-◌, ◌<◌, ◌≤◌, true, false, List, ◌++◌, take, drop, length, sym, subst, ap, ◌∙◌, arith}
+use Rattle.std.proofs.Common.{◌≡◌, ℕ, ◌<◌, ◌≤◌, true, false, List, sym, subst, ap, ◌∙◌, arith}
 use Rattle.std.specs.Prelude.{nat_le, ◌⊎◌, ◌↔◌}
 use Rattle.std.specs.List.{position_or_len}
 use Rattle.oc_base.specs.declared.range.Range.{Range}
@@ -45,7 +45,7 @@ returns-then-part-clause-addresses c =
     subst (Rises c.self.inside.all.from c.self.inside.all.to) (ap (λ (s : Space). s.free) c.self.view_is) c.self.invariant.order in
     let some : c.args.part.from < c.args.part.to = omega (arith, c.if-part.true, c.requires.ordered) in
     λ a. subst (λ (rs : List Range). (is_free rs a ≡ true) ↔ ((is_free c.args.self.now.free a ≡ true) ⊎ ((c.args.part.from ≤ a) × (a < c.args.part.to)))) (sym (returns-then-part-clause-free c))
-      (given_addresses c.args.part c.self.inside.all.from c.self.inside.all.to c.args.self.now.free a some order c.requires.used)
+    (given_addresses c.args.part c.self.inside.all.from c.self.inside.all.to c.args.self.now.free a some order c.requires.used)
 
 pub returns-else-part-clause-free : goal.returns-else-part-clause-free
 returns-else-part-clause-free c = ap (λ (s : Space). s.free) c.self.view_is ∙ sym (given_none c.args.part c.args.self.now.free c.if-part.false)

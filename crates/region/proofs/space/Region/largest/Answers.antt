@@ -1,7 +1,7 @@
 use Rattle.std.proofs.Common.{◌≡◌, ◌≤◌, List, ℕ, sym, subst, ap, ◌∙◌}
-use Rattle.std.specs.Prelude.{All, is_some, nat_le}
+use Rattle.std.specs.Prelude.{All, nat_le}
 use Rattle.oc_base.specs.declared.range.Range.{Range}
-use Rattle.region.specs.Free.{fit, largest}
+use Rattle.region.specs.Free.{largest}
 use Rattle.region.specs.Space.{Space}
 use Rattle.region.proofs.FreeLaws.{ordered, largest_fits}
 use Rattle.region.proofs.space.Region.largest.Goals as goal

@@ -1,10 +1,10 @@
-use Rattle.std.proofs.Common.{◌≡◌, ℕ, ◌+◌, ◌-◌, ◌<◌, ◌≤◌, true, List, ◌++◌, take, drop, length, get_or, sym, subst, ap, ◌∙◌, arith}
+use Rattle.std.proofs.Common.{◌≡◌, ◌+◌, ◌<◌, ◌≤◌, true, List, sym, subst, ap, ◌∙◌, arith}
 use Rattle.std.specs.Prelude.{nat_lt, ◌⊎◌, ◌↔◌}
 use Rattle.std.specs.List.{position_or_len}
 use Rattle.oc_base.specs.declared.range.Range.{Range}
-use Rattle.region.specs.Free.{range, is_free, AreFree, Rises, piece, taken}
+use Rattle.region.specs.Free.{range, is_free, AreFree, Rises, taken}
 use Rattle.region.specs.Space.{Space}
-use Rattle.region.proofs.Taking.{Took, took, taken_addresses, taken_none, none_addresses}
+use Rattle.region.proofs.Taking.{took, taken_addresses, taken_none}
 use Rattle.region.proofs.space.Region.take.Goals as goal
 
 pub cut_out-requires-clause-place : goal.cut_out-requires-clause-place
@@ -13,7 +13,7 @@ cut_out-requires-clause-place c =
     let place : c.place_ending_behind-i.result ≡ position_or_len (λ r. nat_lt c.args.at r.to) c.self.inside.free.items =
     c.place_ending_behind-i.ensures ∙ ap (position_or_len (λ (r : Range). nat_lt c.args.at r.to)) c.deref.ensures.value in
     let t = took c.self.inside.all.from c.self.inside.all.to c.self.inside.free.items c.args.at c.args.n c.self.invariant.order (omega (arith, c.if-n-ne0.true))
-      (subst (λ (rs : List Range). AreFree rs c.args.at c.args.n) same c.requires.free) in
+    (subst (λ (rs : List Range). AreFree rs c.args.at c.args.n) same c.requires.free) in
     rw place t.within
 
 pub cut_out-requires-clause-part : goal.cut_out-requires-clause-part
@@ -22,7 +22,7 @@ cut_out-requires-clause-part c =
     let place : c.place_ending_behind-i.result ≡ position_or_len (λ r. nat_lt c.args.at r.to) c.self.inside.free.items =
     c.place_ending_behind-i.ensures ∙ ap (position_or_len (λ (r : Range). nat_lt c.args.at r.to)) c.deref.ensures.value in
     let t = took c.self.inside.all.from c.self.inside.all.to c.self.inside.free.items c.args.at c.args.n c.self.invariant.order (omega (arith, c.if-n-ne0.true))
-      (subst (λ (rs : List Range). AreFree rs c.args.at c.args.n) same c.requires.free) in
+    (subst (λ (rs : List Range). AreFree rs c.args.at c.args.n) same c.requires.free) in
     λ d. rw place (t.ends d)
 
 pub invariant_of-self : goal.invariant_of-self
@@ -33,7 +33,7 @@ invariant_of-self c =
     let place : c.place_ending_behind-i.result ≡ position_or_len (λ r. nat_lt c.args.at r.to) c.self.inside.free.items =
     c.place_ending_behind-i.ensures ∙ ap (position_or_len (λ (r : Range). nat_lt c.args.at r.to)) c.deref.ensures.value in
     let t = took c.self.inside.all.from c.self.inside.all.to c.self.inside.free.items c.args.at c.args.n c.self.invariant.order (omega (arith, c.if-n-ne0.true))
-      (subst (λ (rs : List Range). AreFree rs c.args.at c.args.n) same c.requires.free) in
+    (subst (λ (rs : List Range). AreFree rs c.args.at c.args.n) same c.requires.free) in
     let cut : c.cut_out.new.free.items ≡ taken c.args.at (c.args.at + c.args.n) c.self.inside.free.items =
     c.cut_out.ensures.items none ∙ rw place (t.is none) in
     record {
@@ -48,7 +48,7 @@ returns-then-n-ne0-clause-free c =
     let place : c.place_ending_behind-i.result ≡ position_or_len (λ r. nat_lt c.args.at r.to) c.self.inside.free.items =
     c.place_ending_behind-i.ensures ∙ ap (position_or_len (λ (r : Range). nat_lt c.args.at r.to)) c.deref.ensures.value in
     let t = took c.self.inside.all.from c.self.inside.all.to c.self.inside.free.items c.args.at c.args.n c.self.invariant.order (omega (arith, c.if-n-ne0.true))
-      (subst (λ (rs : List Range). AreFree rs c.args.at c.args.n) same c.requires.free) in
+    (subst (λ (rs : List Range). AreFree rs c.args.at c.args.n) same c.requires.free) in
     c.cut_out.ensures.items none ∙ rw place (t.is none) ∙ ap (taken c.args.at (c.args.at + c.args.n)) (sym same)
 
 pub returns-then-n-ne0-clause-addresses : goal.returns-then-n-ne0-clause-addresses
@@ -56,7 +56,7 @@ returns-then-n-ne0-clause-addresses c =
     let order : Rises c.self.inside.all.from c.self.inside.all.to c.args.self.now.free =
     subst (Rises c.self.inside.all.from c.self.inside.all.to) (ap (λ (s : Space). s.free) c.self.view_is) c.self.invariant.order in
     λ a. subst (λ (rs : List Range). (is_free rs a ≡ true) ↔ ((is_free c.args.self.now.free a ≡ true) × ((a < c.args.at) ⊎ (c.args.at + c.args.n ≤ a)))) (sym (returns-then-n-ne0-clause-free c))
-      (taken_addresses c.self.inside.all.from c.self.inside.all.to c.args.self.now.free c.args.at c.args.n a order (omega (arith, c.if-n-ne0.true)) c.requires.free)
+    (taken_addresses c.self.inside.all.from c.self.inside.all.to c.args.self.now.free c.args.at c.args.n a order (omega (arith, c.if-n-ne0.true)) c.requires.free)
 
 pub returns-else-n-ne0-clause-free : goal.returns-else-n-ne0-clause-free
 returns-else-n-ne0-clause-free c =
