@@ -124,6 +124,39 @@ fn a_guest_that_is_assembled_runs_to_its_end(rt: HostRuntime) -> Result<(), Fail
     Ok(())
 }
 
+// The files of a generated guest and of a script for it; what its making prints is compared.
+fn generated(rt: &(impl Abort + AllocGlobal)) -> Result<MemFiles, Fail> {
+    let alloc = rt.alloc();
+    let mut files = Vec::new(alloc);
+    let script = b"till 100000\nend\n".to_vec(alloc)?;
+    files.push((String::from_str(alloc, "script")?, script))?;
+    let mut files = MemFiles::new(files, Vec::new(alloc));
+    let mut out = MemSink::new(Vec::new(alloc), Vec::new(alloc));
+    let mut err = MemSink::new(Vec::new(alloc), Vec::new(alloc));
+    let mut words = words(alloc, "--generate", "1")?;
+    words.push(String::from_str(alloc, "guest.elf")?)?;
+    let made = make(alloc, &words, &mut files, &mut out, &mut err);
+    assert_eq!(rt; made.status, 0);
+    assert_eq!(rt; out.held(), "generated 1 prints 18000\n".as_bytes());
+    assert!(rt; err.held().is_empty());
+    Ok(files)
+}
+
+#[test]
+fn a_generated_guest_of_five_harts_prints_its_sum(rt: HostRuntime) -> Result<(), Fail> {
+    let alloc = rt.alloc();
+    let mut files = generated(&rt)?;
+    let words = words(alloc, "guest.elf", "script")?;
+    let mut input = MemSource::new(Vec::new(alloc), Vec::new(alloc));
+    let mut out = MemSink::new(Vec::new(alloc), Vec::new(alloc));
+    let mut err = MemSink::new(Vec::new(alloc), Vec::new(alloc));
+    let answer = play(alloc, &words, &mut files, &mut input, &mut out, &mut err);
+    assert_eq!(&rt; answer.status, 0);
+    assert_eq!(&rt; out.held(), "18000\n".as_bytes());
+    assert_eq!(&rt; err.held(), "ocolos: exit 0\n".as_bytes());
+    Ok(())
+}
+
 #[test]
 fn an_output_takes_no_more_than_its_limit(rt: HostRuntime) -> Result<(), Fail> {
     let end = run(&rt, "till 30000", "", WRITES_ON)?;
