@@ -286,8 +286,9 @@ below_cond false s t xs ys x y = y
 below_step : (names : List (List ℕ × Meaning)) (s : State) (x : Statement) → Below (limit s) names → Below (limit (step s x)) (names_after names s x)
 below_step names s x h =
     let t = placed_step s x.line x.body in
-    let up = below_up (limit s) (limit t) (add_labels names (text_at s) x.labels) (limit_up s x.line x.body) (below_labels (limit s) (text_at s) names x.labels h) in
-    below_cond (is_void s.section x) s t names (add_own (add_labels names (text_at s) x.labels) s x.body) h (below_own s x.line x.body (add_labels names (text_at s) x.labels) up)
+    let named = below_labels (limit s) (text_at s) names x.labels h in
+    let up = below_up (limit s) (limit t) (add_labels names (text_at s) x.labels) (limit_up s x.line x.body) named in
+    below_cond (is_void s.section x) s t (add_labels names (text_at s) x.labels) (add_own (add_labels names (text_at s) x.labels) s x.body) named (below_own s x.line x.body (add_labels names (text_at s) x.labels) up)
 
 pub below_from : (names : List (List ℕ × Meaning)) (s : State) (xs : List Statement) → Below (limit s) names → Below (limit (after s xs)) (names_from names s xs)
 below_from names s [] h = h

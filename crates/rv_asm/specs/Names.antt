@@ -30,7 +30,9 @@ add_own names s (says.Object name) = add names name Object
 add_own names s _ = names
 
 abbrev pub names_after : List (List ℕ × Meaning) → State → Statement → List (List ℕ × Meaning)
-names_after names s x = if is_void s.section x then names else add_own (add_labels names (text_at s) x.labels) s x.body
+names_after names s x =
+    let named = add_labels names (text_at s) x.labels in
+    if is_void s.section x then named else add_own named s x.body
 
 -- the names that statements give, after those before them
 abbrev pub names_from : List (List ℕ × Meaning) → State → List Statement → List (List ℕ × Meaning)
@@ -53,8 +55,8 @@ own_again names line _ = []
 
 abbrev pub name_faults : List (List ℕ × Meaning) → State → Statement → List ℕ
 name_faults names s x =
-    if is_void s.section x then []
-    else labels_again names x.line (text_at s) x.labels ++ own_again (add_labels names (text_at s) x.labels) x.line x.body
+    labels_again names x.line (text_at s) x.labels
+    ++ (if is_void s.section x then [] else own_again (add_labels names (text_at s) x.labels) x.line x.body)
 
 abbrev pub name_faults_from : List (List ℕ × Meaning) → State → List Statement → List ℕ
 name_faults_from names s [] = []

@@ -48,7 +48,7 @@ abbrev pub is_bad : Body → Bool
 is_bad (says.Bad section) = true
 is_bad _ = false
 
--- a statement that is unknown, in the wrong section or with a bad operand has no effect, nor have its labels
+-- a statement that is unknown, in the wrong section or with a bad operand has no effect; its labels are given all the same
 abbrev pub is_void : Section → Statement → Bool
 is_void section x = is_misplaced section x || (is_unknown x.body || is_bad x.body)
 

@@ -95,11 +95,11 @@ fn give_all(
     ensures names { OnOk result (names.new ≡ names_after names.old state.now x.now) }
     ensures fault { IfOk result (λ f. f ≡ lesser so_far (least (name_faults names.old state.now x.now))) }
 {
-    if is_void(state.section, x) {
-        return Ok(so_far);
-    }
     let at = text_at(state);
     let labels = give_labels(alloc, names, x.line, at, x.labels.as_slice(), so_far)?;
+    if is_void(state.section, x) {
+        return Ok(labels);
+    }
     give_own(alloc, names, state, x.line, &x.body, labels)
 }
 
