@@ -1,0 +1,4 @@
+pub mod Alone
+pub mod Laid
+pub mod Points
+pub mod Rows

@@ -1,0 +1,5 @@
+//! Layouts of moved code: what each of their words stands for, and whether their words render the original ones.
+#![tactic(auto)]
+
+pub mod layout;
+pub mod point;
