@@ -1,0 +1,7 @@
+//! The basic blocks of a function.
+#![tactic(auto)]
+
+pub mod fault;
+pub mod recover;
+pub mod run;
+pub mod word;

@@ -1,0 +1,4 @@
+//! Plans: which functions move, and in which order their blocks then stand.
+#![tactic(auto)]
+
+pub mod plan;
