@@ -1,1 +1,3 @@
-
+pub mod CallLookups
+pub mod Places
+pub mod TextWords

@@ -1,20 +1,15 @@
 -- How the words now render the original ones: one case for each kind of original word, each about one address alone.
 -- Source: this project.
-use Rattle.std.specs.Prelude.{◌≡◌, ◌≢◌, ◌+◌, ◌⊎◌, ◌^◌, ◌*◌, ℕ, ℤ, pos, ◌+ℤ◌, Option, Some, None, IsSome}
-use Rattle.rv_isa.specs.Word.{signed}
+use Rattle.std.specs.Prelude.{◌≡◌, ◌≢◌, ◌+◌, ◌⊎◌, ℕ, ℤ, Option, Some, None, IsSome}
 use Rattle.rv_isa.specs.Decoded.{decoded}
 use Rattle.rv_isa.specs.declared.instr.Cond.{Cond}
 use Rattle.rv_isa.specs.declared.instr.Cond.TheVariants.{Eq, Ne, Lt, Ge, Ltu, Geu}
 use Rattle.rv_isa.specs.declared.instr.ImmOp.TheVariants.{Addi}
 use Rattle.rv_isa.specs.declared.instr.Instr.{Instr}
 use Rattle.rv_isa.specs.declared.instr.Instr.TheVariants.{AluImm, Auipc, Jal, Jalr, Branch}
-use Rattle.image.specs.Targets.{reduced, target, made_by}
+use Rattle.image.specs.Targets.{target, made_by}
 use Rattle.layout.specs.declared.point.Point.TheVariants.{Start, Hop, Mid}
 use Rattle.layout.specs.Points.{Code, StandsFor, read}
-
--- what an AUIPC at an address and an ADDI after it make
-unfoldable pub made_by_two : ℕ → ℕ → ℤ → ℕ
-made_by_two a high low = reduced (pos a +ℤ signed 32 (4096 * high) +ℤ low)
 
 -- the words that are kept as they are, wherever they stand, and that the next one follows
 abbrev pub IsKept : Instr → Type 0
@@ -57,7 +52,7 @@ pub record MovedRow (c : Code) (a x rd high : ℕ) : Type 0 where
   pub mid : c.point (a + 4) ≡ Some (Mid x)
   pub home : c.home (a + 4) ≡ c.home a
   pub second : read c.word (a + 4) ≡ Some (AluImm Addi rd rd low)
-  pub value : made_by_two a high low ≡ made_by x imm
+  pub value : target (made_by a high) low ≡ made_by x imm
   pub next : Next c (a + 4) (x + 4)
 
 -- The word at a, a Start of x. The first two rows are for text alone: a layout has Starts of words that read, and no others.
