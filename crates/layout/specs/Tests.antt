@@ -50,6 +50,11 @@ abbrev pub makes_address : Option Instr → Bool
 makes_address (Some (Auipc rd imm)) = not (rd == 0)
 makes_address _ = false
 
+-- the word at an address is listed, if it is a call
+abbrev pub listed : Option ℕ → List Aim → ℕ → Bool
+listed None list a = true
+listed (Some g) list a = is_some (position (λ s. aim_place s == a) list)
+
 module _ (p : Picture) (l : Laid) where
   unfoldable pub point_alone : ℕ → Option Point
   point_alone t = if in_range p.region t then point_in l t else Some (Start t)
@@ -130,11 +135,6 @@ module _ (p : Picture) (l : Laid) where
   point_test a (Some (Start x)) = start_test a x
   point_test a (Some (Hop x)) = hop_test a x
   point_test a (Some (Mid x)) = mid_test a x
-
-  -- the word at a is listed, if it is a call
-  unfoldable pub listed : Option ℕ → List Aim → ℕ → Bool
-  listed None list a = true
-  listed (Some g) list a = is_some (position (λ s. aim_place s == a) list)
 
   unfoldable pub word_test : ℕ → Bool
   word_test a =

@@ -4,5 +4,6 @@
 pub mod calls;
 pub mod layout;
 pub mod point;
+pub mod renders;
 pub mod rows;
 pub mod targets;

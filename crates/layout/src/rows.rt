@@ -18,6 +18,7 @@ use rv_isa::fields::{Imm12, Imm20, OffB, OffJ, Reg};
 use rv_isa::instr::{Cond, ImmOp, Instr};
 
 /// A layout that stands alone over an image's text.
+#[derive(Drop)]
 pub struct Alone<'a> {
     pub image: &'a Image,
     pub layout: &'a Layout,

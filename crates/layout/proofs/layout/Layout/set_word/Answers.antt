@@ -1,4 +1,4 @@
-use Rattle.std.proofs.Common.{sym, subst}
+use Rattle.std.proofs.Common.{rules, sym, subst}
 use Rattle.std.specs.Prelude.{IsSome}
 use Rattle.layout.specs.Laid.{Laid, item_at}
 use Rattle.layout.proofs.Places.{item_within}
@@ -10,4 +10,5 @@ overflow_sub-i c =
 
 pub index_mut-requires : goal.index_mut-requires
 index_mut-requires c =
-    (item_within c.self.inside.base c.self.inside.words.items c.args.at (subst (λ (l : Laid). IsSome (item_at l.base l.words c.args.at)) (sym c.self.view_is) c.requires)).1
+    let within = (item_within c.self.inside.base c.self.inside.words.items c.args.at (subst (λ (l : Laid). IsSome (item_at l.base l.words c.args.at)) (sym c.self.view_is) c.requires)).1 in
+    search (rules, within)
