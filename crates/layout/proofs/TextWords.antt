@@ -26,7 +26,7 @@ pub record IsWordOf (texts : List TextRange) (x w : ℕ) : Type 0 where
   pub at : x ≡ text.from + 4 * place
   pub word : slice_get text.words place ≡ Some w
 
-found : {X : Type 0} (p : X → Bool) (xs : List X) (x : X) → find p xs ≡ Some x → Contains xs x × (p x ≡ true)
+pub found : {X : Type 0} (p : X → Bool) (xs : List X) (x : X) → find p xs ≡ Some x → Contains xs x × (p x ≡ true)
 found p [] x e = absurd (cc)
 found p (y ∷ ys) x e = by_test (p y) refl e (found p ys x)
   where

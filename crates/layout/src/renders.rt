@@ -143,5 +143,14 @@ pub fn renders(image: &Image, layout: &Layout) -> bool
     image.kept();
     layout.kept();
     let alone = Alone { image, layout };
-    alone.is_within() && alone.are_words() && alone.are_sites() && alone.are_pairs()
+    if !alone.is_within() {
+        return false;
+    }
+    if !alone.are_words() {
+        return false;
+    }
+    if !alone.are_sites() {
+        return false;
+    }
+    alone.are_pairs()
 }
