@@ -1,5 +1,5 @@
 -- What the blocks of a function without a fault are.
-use Rattle.std.specs.Prelude.{◌≡◌, ℕ, ◌+◌, ◌%◌, ◌<◌, ◌⊎◌, Bool, true, List, [], ◌∷◌, AllPairs, Some}
+use Rattle.std.specs.Prelude.{◌≡◌, ℕ, ◌+◌, ◌%◌, ◌<◌, ◌≤◌, ◌≢◌, ◌⊎◌, ◌↔◌, Bool, true, List, [], ◌∷◌, AllPairs, slice_get, Some}
 use Rattle.rv_isa.specs.Decoded.{decoded}
 use Rattle.rv_isa.specs.declared.instr.Instr.{Instr}
 use Rattle.rv_isa.specs.declared.instr.Instr.TheVariants.{Jal, Branch}
@@ -10,7 +10,8 @@ use Rattle.image.specs.Targets.{target}
 use Rattle.image.specs.Texts.{word_at}
 use Rattle.blocks.specs.declared.word.Word.{Word}
 use Rattle.blocks.specs.declared.run.Run.{Run}
-use Rattle.blocks.specs.Words.{falls_of}
+use Rattle.blocks.specs.Words.{falls_of, words_of}
+use Rattle.blocks.specs.Blocks.{is_start}
 
 -- one of the blocks begins at y
 abbrev pub Begins : List Run → ℕ → Type 0
@@ -50,8 +51,13 @@ module _ (texts : List TextRange) (f : Func) (runs : List Run) where
   AreRuns a [] b = a ≡ b
   AreRuns a (r ∷ rs) b = (r.from ≡ a) × IsRun r.from r.words r.to r.falls × BeginsInside f runs r.to × AreRuns r.to rs b
 
--- these are the blocks of f
+-- these are the blocks of f: its words in order, cut at its starts and nowhere else
 pub record IsSound (texts : List TextRange) (f : Func) (runs : List Run) : Type 0 where
   pub words : AreRuns texts f runs f.from runs f.to
+  pub starts : (y : ℕ) → is_inside y f ≡ true → y % 4 ≡ 0 → Begins runs y ↔ (is_start f (words_of texts f) y ≡ true)
   pub entry : Begins runs f.from
   pub ascend : AllPairs (λ r s. r.from < s.from) runs
+
+-- the functions of an image share no address with this one
+abbrev pub IsAlone : List Func → ℕ → Func → Type 0
+IsAlone funcs n f = (m : ℕ) (g : Func) → slice_get funcs m ≡ Some g → m ≢ n → (g.to ≤ f.from) ⊎ (f.to ≤ g.from)

@@ -1,9 +1,10 @@
 //! Words of a function, and where they may go.
 
-ghost use Rattle.std.specs.Prelude.{◌≡◌, pos, neg_ℤ, ◌≤ℤ◌};
+ghost use Rattle.std.specs.Prelude.{◌≡◌, pos, neg_ℤ, ◌≤ℤ◌, [], ◌∷◌, ◌++◌, OnOk};
 ghost use Rattle.image.specs.Targets.{target};
 ghost use Rattle.blocks.specs.Words.{falls_of};
 
+use oc_base::fault::NoMemory;
 use rv_isa::instr::Instr;
 
 /// A word of text and the instruction that it reads as.
@@ -38,4 +39,17 @@ pub fn falls(i: &Instr) -> bool
         Instr::Branch { .. } => false,
         _ => true,
     }
+}
+
+/// Adds a word at the end.
+pub fn push_word(words: &mut Vec<Word>, w: &Word) -> Result<(), NoMemory>
+    ensures { OnOk result (words.new.items ≡ words.old.items ++ w.now ∷ []) }
+{
+    let instr: Instr = w.instr;
+    words.push(Word {
+        at: w.at,
+        word: w.word,
+        instr,
+    })?;
+    Ok(())
 }

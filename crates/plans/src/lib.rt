@@ -1,4 +1,5 @@
 //! Plans: which functions move, and in which order their blocks then stand.
 #![tactic(auto)]
 
+pub mod order;
 pub mod plan;

@@ -1,10 +1,15 @@
 //! Plans.
 
-ghost use Rattle.std.specs.Prelude.{◌≡◌, ◌≢◌, Some, None, IfOk, IfErr, OnOk};
+ghost use Rattle.std.specs.Prelude.{◌≡◌, ◌≢◌, ◌<◌, Some, None, IfOk, IfErr, OnOk, map, length, false};
+ghost use Rattle.std.specs.List.{list_any};
 ghost use Rattle.plans.specs.declared.plan.PlanFault.TheVariants.{NoMemory as WantOfMemory};
-ghost use Rattle.plans.specs.Plans.{IsPlan};
-ghost use Rattle.plans.specs.Given.{plan_fault};
+ghost use Rattle.plans.specs.Orders.{repeats};
+ghost use Rattle.plans.specs.Plans.{IsPlan, moved_func};
+ghost use Rattle.plans.specs.Given.{block_count, is_missing, is_misordered, plan_fault};
 
+use crate::order::{is_order, numbers_of};
+use blocks::fault::Unreadable;
+use blocks::recover::runs;
 use image::picture::Image;
 use oc_base::fault::NoMemory;
 use oc_base::items::Items;
@@ -40,6 +45,14 @@ pub enum PlanFault {
     NoMemory,
 }
 
+impl From<NoMemory> for PlanFault {
+    ghost from_gives = { λ _ e. e ≡ WantOfMemory };
+
+    fn from(_e: NoMemory) -> PlanFault {
+        PlanFault::NoMemory
+    }
+}
+
 /// The functions that move, in their order. No function stands twice, and in each order no number.
 #[derive(Debug, Drop)]
 pub struct Plan {
@@ -59,20 +72,37 @@ impl Model for Plan {
 }
 
 impl Plan {
-    /// The plan of an image that has these parts.
-    pub fn given(_alloc: Global, image: &Image, parts: &[Moved]) -> Result<Plan, PlanFault>
+    /// The plan of an image that has these parts. An image whose function can't be cut into blocks takes any order of
+    /// its numbers from 0 on.
+    #[tactic(auto, unfolding(crate::specs::Given::plan_fault))]
+    pub fn given(alloc: Global, image: &Image, parts: &[Moved]) -> Result<Plan, PlanFault>
         ensures is { IfOk result (λ plan. plan ≡ parts.now) }
         ensures none { OnOk result (plan_fault image.now parts.now ≡ None) }
         ensures fault { IfErr result (λ e. e ≢ WantOfMemory → plan_fault image.now parts.now ≡ Some e) }
     {
-        Err(PlanFault::NoMemory)
+        if some_missing(image, parts) {
+            return Err(PlanFault::NoFunction);
+        }
+        if some_twice(alloc, parts)? {
+            return Err(PlanFault::NotAPlan);
+        }
+        if some_misordered(alloc, image, parts)? {
+            return Err(PlanFault::NotAPlan);
+        }
+        let copies = copied(alloc, parts)?;
+        Ok(Plan {
+            parts: Items::from_vec(copies),
+        })
     }
 
     /// An equal plan.
-    pub fn copy(&self, _alloc: Global) -> Result<Self, NoMemory>
+    pub fn copy(&self, alloc: Global) -> Result<Self, NoMemory>
         ensures { IfOk result (λ plan. plan ≡ self.now) }
     {
-        Err(NoMemory)
+        let copies = copied(alloc, self.parts.as_slice())?;
+        Ok(Plan {
+            parts: Items::from_vec(copies),
+        })
     }
 
     /// What each plan keeps, for a caller's proof. It does nothing.
@@ -87,4 +117,75 @@ impl Plan {
     {
         self.parts.as_slice()
     }
+}
+
+fn some_missing(image: &Image, parts: &[Moved]) -> bool
+    ensures { result ≡ list_any (is_missing image.now) parts.now }
+{
+    let n = image.funcs().len();
+    parts.iter().any(|m| !((m.func as usize) < n))
+}
+
+fn funcs_of(alloc: Global, parts: &[Moved]) -> Result<Vec<u32>, NoMemory>
+    ensures { IfOk result (λ funcs. funcs.items ≡ map moved_func parts.now) }
+{
+    let mut funcs = Vec::with_capacity(alloc, parts.len())?;
+    for m in parts {
+        funcs.push(m.func)?;
+    }
+    Ok(funcs)
+}
+
+/// Whether some function is given twice.
+fn some_twice(alloc: Global, parts: &[Moved]) -> Result<bool, NoMemory>
+    ensures { IfOk result (λ b. b ≡ repeats (map moved_func parts.now)) }
+{
+    let funcs = funcs_of(alloc, parts)?;
+    let numbers = numbers_of(alloc, &funcs)?;
+    Ok(numbers.is_none())
+}
+
+/// How many blocks a function counts as having.
+#[tactic(auto, unfolding(crate::specs::Given::block_count))]
+fn block_count(alloc: Global, image: &Image, m: &Moved) -> Result<usize, NoMemory>
+    requires { m.now.func < length image.now.funcs }
+    ensures { IfOk result (λ n. n ≡ block_count image.now m.now) }
+{
+    match runs(alloc, image, m.func) {
+        Ok(runs) => Ok(runs.len()),
+        Err(Unreadable::NoMemory) => Err(NoMemory),
+        Err(_) => Ok(m.order.len().max(1)),
+    }
+}
+
+fn is_misordered(alloc: Global, image: &Image, m: &Moved) -> Result<bool, NoMemory>
+    requires { m.now.func < length image.now.funcs }
+    ensures { IfOk result (λ b. b ≡ is_misordered image.now m.now) }
+{
+    let count = block_count(alloc, image, m)?;
+    let is = is_order(alloc, count, m.order.as_slice())?;
+    Ok(!is)
+}
+
+/// Whether some order is none of its function's blocks.
+fn some_misordered(alloc: Global, image: &Image, parts: &[Moved]) -> Result<bool, NoMemory>
+    requires { list_any (is_missing image.now) parts.now ≡ false }
+    ensures { IfOk result (λ b. b ≡ list_any (is_misordered image.now) parts.now) }
+{
+    for m in parts {
+        if is_misordered(alloc, image, m)? {
+            return Ok(true);
+        }
+    }
+    Ok(false)
+}
+
+fn copied(alloc: Global, parts: &[Moved]) -> Result<Vec<Moved>, NoMemory>
+    ensures { IfOk result (λ copies. copies.items ≡ parts.now) }
+{
+    let mut copies = Vec::with_capacity(alloc, parts.len())?;
+    for m in parts {
+        copies.push(m.copy(alloc)?)?;
+    }
+    Ok(copies)
 }
