@@ -1,0 +1,7 @@
+//! The emitter: the layout of a plan at a base.
+#![tactic(auto)]
+
+pub mod calls;
+pub mod entry;
+pub mod fault;
+pub mod unplaced;
