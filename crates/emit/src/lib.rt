@@ -4,4 +4,5 @@
 pub mod calls;
 pub mod entry;
 pub mod fault;
+pub mod starts;
 pub mod unplaced;

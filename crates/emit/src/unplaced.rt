@@ -323,10 +323,10 @@ fn first_of(runs: &[Run], order: &[u32]) -> Option<u64>
     requires { All (λ o. o < length runs.now) order.now }
     ensures { result ≡ first_of (in_order runs.now order.now) }
 {
-    match order.first() {
-        Some(o) => Some(runs[*o as usize].from),
-        None => None,
+    if order.is_empty() {
+        return None;
     }
+    Some(runs[order[0] as usize].from)
 }
 
 /// The words of a function.
