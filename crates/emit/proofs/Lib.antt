@@ -1,1 +1,4 @@
 pub mod Ordered
+pub mod Places
+pub mod Reach
+pub mod Steps

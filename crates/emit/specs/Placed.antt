@@ -15,6 +15,8 @@ use Rattle.emit.specs.declared.entry.To.TheVariants.{Here, There, Over}
 use Rattle.emit.specs.declared.entry.Made.{Made}
 use Rattle.emit.specs.declared.entry.Made.TheVariants.{Same, Jump, Branch, High, Low}
 use Rattle.emit.specs.declared.entry.Entry.{Entry}
+use Rattle.emit.specs.declared.fault.EmitFault.{EmitFault}
+use Rattle.emit.specs.declared.fault.EmitFault.TheVariants as fault
 use Rattle.emit.specs.Entries.{place, reaches}
 
 -- the address to which a jump at a goes
@@ -108,3 +110,9 @@ MadeNear es k _ = Unit {0}
 
 pub record AreNear (es : List Entry) : Type 0 where
   pub each : (k : ℕ) (e : Entry) → slice_get es k ≡ Some e → MadeNear es k e.made
+
+-- ---- why there are no words
+abbrev pub Stops : ℕ → List Entry → EmitFault → Type 0
+Stops base es (fault.Unreadable g why) = ⊥
+Stops base es (fault.BranchReach at target) = IsFirstOut base es at target
+Stops base es fault.NoMemory = Unit {0}

@@ -4,5 +4,6 @@
 pub mod calls;
 pub mod entry;
 pub mod fault;
+pub mod place;
 pub mod starts;
 pub mod unplaced;
