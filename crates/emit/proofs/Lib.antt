@@ -1,4 +1,5 @@
 pub mod Ordered
+pub mod Parts
 pub mod Places
 pub mod Reach
 pub mod Steps

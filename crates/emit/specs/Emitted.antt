@@ -28,6 +28,12 @@ unreadable_as g why = fault.Unreadable g why
 abbrev pub part_fault : Picture → Moved → Option EmitFault
 part_fault p m = option_map (unreadable_as m.func) (fault_of p m.func)
 
+-- why a function has no words; want of memory has no cause
+abbrev pub IsFault : Picture → ℕ → EmitFault → Type 0
+IsFault p g (fault.Unreadable h why) = (h ≡ g) × (fault_of p g ≡ Some why)
+IsFault p g (fault.BranchReach at target) = ⊥
+IsFault p g fault.NoMemory = Unit {0}
+
 unfoldable pub plan_unreadable : Picture → List Moved → Option EmitFault
 plan_unreadable p parts = first_of (map (part_fault p) parts)
 

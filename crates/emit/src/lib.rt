@@ -5,5 +5,6 @@ pub mod calls;
 pub mod entry;
 pub mod fault;
 pub mod place;
+pub mod plan;
 pub mod starts;
 pub mod unplaced;
