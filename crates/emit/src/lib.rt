@@ -4,6 +4,7 @@
 pub mod calls;
 pub mod entry;
 pub mod fault;
+pub mod lists;
 pub mod place;
 pub mod plan;
 pub mod starts;
