@@ -1,6 +1,13 @@
+pub mod EntryRows
+pub mod Halves
+pub mod Laid
+pub mod Leading
 pub mod Listed
 pub mod Ordered
 pub mod Parts
 pub mod Places
+pub mod PlanRows
 pub mod Reach
+pub mod RunRows
 pub mod Steps
+pub mod Thinner

@@ -6,6 +6,7 @@ use Rattle.layout.specs.declared.point.Point.{Point}
 use Rattle.layout.specs.declared.point.Point.TheVariants.{Start, Hop, Mid}
 use Rattle.emit.specs.declared.entry.Entry.{Entry}
 use Rattle.emit.specs.Entries.{is_start, place}
+use Rattle.emit.proofs.EntryRows.{EntryRow, Rows}
 
 -- a Start of y is among the words
 abbrev pub Occurs : ℕ → List Entry → Type 0
@@ -49,6 +50,19 @@ place_found y (e ∷ es) o = by_test (is_start y e.point) (is_start-true y e.poi
         let t = r (λ p. true_false (k p)) in
         let q : 1 + place y es ≡ suc (place y es) = omega arith in
         (t.0, rw q t.1, t.2)
+
+-- the row of the word in place k, and the words that come after it
+pub row_at : (text second : ℕ → Option ℕ) (known outside : ℕ → Type 0) (es rest : List Entry) (k : ℕ) (e : Entry) → Rows text second known outside es rest → slice_get es k ≡ Some e
+    → (after : List Entry) × EntryRow text second known outside e after × ((j i : ℕ) → i ≡ k + 1 + j → slice_get after j ≡ slice_get (es ++ rest) i)
+row_at text second known outside [] rest k e r s = absurd (cc)
+row_at text second known outside (x ∷ xs) rest zero e r s =
+    (xs ++ rest, subst (λ (d : Entry). EntryRow text second known outside d (xs ++ rest)) (same s) r.0, λ j i p. (let q : i ≡ suc j = omega arith in rw q refl))
+  where
+    same : Some x ≡ Some e → x ≡ e
+    same p = cc
+row_at text second known outside (x ∷ xs) rest (suc k) e r s =
+    let t = row_at text second known outside xs rest k e r.1 s in
+    (t.0, t.1, λ j i p. (let q : i ≡ suc (k + 1 + j) = omega arith in rw q (t.2 j (k + 1 + j) refl)))
 
 pub place_within : (y : ℕ) (es : List Entry) → place y es ≤ length es
 place_within y [] = omega arith

@@ -73,10 +73,10 @@ three_ways z s v h (inr p) (inl q) = inr (inr (omega (arith, ints)))
 three_ways z s v h (inr p) (inr q) = inl (omega (arith, ints))
 
 -- AUIPC and ADDI make the value again
-pub value_back : (a v : ℕ) → a < 2 ^ 63 → v < 2 ^ 64 → InReach a v → made_by_two a (high_of a v) (low_of a v) ≡ v
+pub value_back : (a v : ℕ) → a < 2 ^ 63 → v < 2 ^ 64 → InReach a v → target (made_by a (high_of a v)) (low_of a v) ≡ v
 value_back a v p q r =
     let d : ahead a v < 2 ^ 64 = omega arith in
-    reduced_is (pos a +ℤ signed 32 (4096 * high_of a v) +ℤ low_of a v) v q
+    two_sums a (high_of a v) (low_of a v) ∙ reduced_is (pos a +ℤ signed 32 (4096 * high_of a v) +ℤ low_of a v) v q
     (three_ways (pos a +ℤ signed 32 (4096 * high_of a v) +ℤ low_of a v) (a + ahead a v) v q (pair_makes a (ahead a v) d r) (sum_of a (ahead a v) v p q refl))
 
 pub made_small : (x imm : ℕ) → made_by x imm < 2 ^ 64
@@ -110,3 +110,11 @@ value_only a v h l p q r s t e =
     let o = offset_small h l r s t in
     let z : pos a +ℤ signed 32 (4096 * h) +ℤ l ≡ pos a +ℤ (signed 32 (4096 * h) +ℤ l) = omega (arith, ints) in
     in_reach_of a v (signed 32 (4096 * h) +ℤ l) p q o.0 o.1 (reduced_back (pos a +ℤ (signed 32 (4096 * h) +ℤ l)) v (omega (arith, ints, o.0)) (omega (arith, ints, o.1)) (ap reduced (sym z) ∙ e))
+
+-- what isn't out of reach is in reach
+pub out_or_in : (a v : ℕ) → ((InReach a v → ⊥) → ⊥) → InReach a v
+out_or_in a v h = elim (cases_lt ((ahead a v + 2048) % 2 ^ 64) (2 ^ 31)) [ inl r ↦ inl r | inr r ↦ behind r (cases_lt ((ahead a v + 2048) % 2 ^ 64) (2 ^ 64 - 2 ^ 31)) ]
+  where
+    behind : 2 ^ 31 ≤ (ahead a v + 2048) % 2 ^ 64 → ((ahead a v + 2048) % 2 ^ 64 < 2 ^ 64 - 2 ^ 31) ⊎ (2 ^ 64 - 2 ^ 31 ≤ (ahead a v + 2048) % 2 ^ 64) → InReach a v
+    behind r (inr k) = inr k
+    behind r (inl k) = absurd (h (λ i. elim i [ inl q ↦ (omega (arith, q, r)) | inr q ↦ (omega (arith, q, k)) ]))

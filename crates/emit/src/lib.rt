@@ -2,6 +2,7 @@
 #![tactic(auto)]
 
 pub mod calls;
+pub mod emit;
 pub mod entry;
 pub mod fault;
 pub mod lists;
