@@ -1,3 +1,4 @@
+pub mod Assembled
 pub mod EntryRows
 pub mod Halves
 pub mod Laid
