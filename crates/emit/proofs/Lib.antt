@@ -1,9 +1,11 @@
 pub mod Assembled
+pub mod Distinct
 pub mod EntryRows
 pub mod Halves
 pub mod Laid
 pub mod Leading
 pub mod Listed
+pub mod NearBranches
 pub mod Ordered
 pub mod Parts
 pub mod Places

@@ -22,12 +22,12 @@ pub occurs_right : (y : ℕ) (xs ys : List Entry) → Occurs y ys → Occurs y (
 occurs_right y [] ys o = o
 occurs_right y (x ∷ xs) ys o = inr (occurs_right y xs ys o)
 
-is_start-true : (y : ℕ) (p : Point) → is_start y p ≡ true → p ≡ Start y
+pub is_start-true : (y : ℕ) (p : Point) → is_start y p ≡ true → p ≡ Start y
 is_start-true y (Start z) e = rw (eqb-true y z e) refl
 is_start-true y (Hop z) e = absurd (cc)
 is_start-true y (Mid z) e = absurd (cc)
 
-is_start-own : (y : ℕ) (p : Point) → p ≡ Start y → is_start y p ≡ true
+pub is_start-own : (y : ℕ) (p : Point) → p ≡ Start y → is_start y p ≡ true
 is_start-own y p e = rw e (eq-eqb y y refl)
 
 true_false : false ≡ true → ⊥

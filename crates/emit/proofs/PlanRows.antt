@@ -39,7 +39,7 @@ module _ (text second : ℕ → Option ℕ) (known outside : ℕ → Type 0) (c 
   run_occurs f far next r b =
       occurs_left r.from (flat_map (word_entries c f far next) r.words) (fall f next r) (words_occur f far next r.from r.words r.to r.falls b.words)
 
-  runs_occur : (f : Func) (far : ℕ → ℕ → Bool) (rs : List Run) (y : ℕ) → AllBlocks text second known outside c f rs → Begins rs y → Occurs y (runs_entries c f far rs)
+  pub runs_occur : (f : Func) (far : ℕ → ℕ → Bool) (rs : List Run) (y : ℕ) → AllBlocks text second known outside c f rs → Begins rs y → Occurs y (runs_entries c f far rs)
   runs_occur f far [] y b o = absurd o
   runs_occur f far (r ∷ rs) y b (inl p) =
       occurs_left y (run_entries c f far (first_of rs) r) (runs_entries c f far rs)
