@@ -1,5 +1,6 @@
 pub mod Assembled
 pub mod Distinct
+pub mod Emission
 pub mod EntryRows
 pub mod Halves
 pub mod Laid

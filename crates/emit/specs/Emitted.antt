@@ -8,18 +8,23 @@ use Rattle.blocks.specs.Faults.{fault_of}
 use Rattle.plans.specs.declared.plan.Moved.{Moved}
 use Rattle.layout.specs.Laid.{Laid}
 use Rattle.layout.specs.Points.{site_of, second_of}
+use Rattle.emit.specs.declared.entry.Entry.{Entry}
 use Rattle.emit.specs.declared.fault.EmitFault.{EmitFault}
 use Rattle.emit.specs.declared.fault.EmitFault.TheVariants as fault
 use Rattle.emit.specs.Entries.{entries_of}
 use Rattle.emit.specs.Placed.{ArePlaced, IsFirstOut, point_of, calls_in}
 
--- the layout is that of the plan at the base
-pub record IsEmitted (p : Picture) (parts : List Moved) (base : ℕ) (l : Laid) : Type 0 where
+-- the layout is made of these words at the base
+pub record IsMadeOf (p : Picture) (es : List Entry) (base : ℕ) (l : Laid) : Type 0 where
   pub base_is : l.base ≡ base
-  pub points : l.points ≡ map point_of (entries_of p parts)
-  pub words : ArePlaced base (entries_of p parts) l.words
-  pub sites : l.sites ≡ calls_in (site_of p) base (entries_of p parts)
-  pub pairs : l.pairs ≡ calls_in (second_of p) base (entries_of p parts)
+  pub points : l.points ≡ map point_of es
+  pub words : ArePlaced base es l.words
+  pub sites : l.sites ≡ calls_in (site_of p) base es
+  pub pairs : l.pairs ≡ calls_in (second_of p) base es
+
+-- the layout is that of the plan at the base
+abbrev pub IsEmitted : Picture → List Moved → ℕ → Laid → Type 0
+IsEmitted p parts base l = IsMadeOf p (entries_of p parts) base l
 
 -- the first function of a plan that can't be cut into blocks, with its first fault
 abbrev pub unreadable_as : ℕ → Unreadable → EmitFault
