@@ -1,10 +1,10 @@
 -- The functions of a plan, none of which has a fault, are what the emitter's theorem asks.
-use Rattle.std.proofs.Common.{◌≡◌, ◌≢◌, ℕ, zero, suc, ◌+◌, ◌%◌, ◌^◌, ◌<◌, ◌≤◌, ◌==◌, Bool, true, false, List, [], ◌∷◌, ◌++◌, map, length, get_or, refl, sym, ◌∙◌, subst, ap, inl, inr, arith}
-use Rattle.std.specs.Prelude.{Option, Some, None, ℤ, ◌⊎◌, ◌||◌, All, slice_get, unwrap_or}
+use Rattle.std.proofs.Common.{◌≡◌, ℕ, suc, ◌+◌, ◌<◌, Bool, true, false, List, [], ◌∷◌, map, length, get_or, refl, sym, ◌∙◌, subst, ap, inl, inr, arith}
+use Rattle.std.specs.Prelude.{Option, Some, None, ℤ, ◌⊎◌, All, slice_get, unwrap_or}
 use Rattle.std.specs.List.{flat_map, list_any}
 use Rattle.std.specs.Option.{option_map, option_and_then}
 use Rattle.std.proofs.lemmas.Bool.{eqb-true, or_cases, false≢true}
-use Rattle.std.proofs.lemmas.Option.{slice_get-get_or, slice_get_within}
+use Rattle.std.proofs.lemmas.Option.{slice_get-get_or}
 use Rattle.finite.specs.First.{first_of}
 use Rattle.rv_isa.specs.Decoded.{decoded}
 use Rattle.rv_isa.specs.declared.instr.Instr.{Instr}
@@ -17,7 +17,6 @@ use Rattle.image.specs.Picture.{Picture, IsKept}
 use Rattle.blocks.specs.declared.fault.Unreadable.{Unreadable}
 use Rattle.blocks.specs.declared.word.Word.{Word}
 use Rattle.blocks.specs.declared.run.Run.{Run}
-use Rattle.blocks.specs.Words.{falls_of}
 use Rattle.blocks.specs.Faults.{fault_of}
 use Rattle.blocks.specs.Blocks.{runs_of}
 use Rattle.blocks.specs.Sound.{Begins, BeginsInside, AreRuns, IsSound}
@@ -26,14 +25,13 @@ use Rattle.blocks.proofs.Soundness.{sound}
 use Rattle.plans.specs.declared.plan.Moved.{Moved}
 use Rattle.plans.specs.Given.{block_count, IsPlanOf}
 use Rattle.plans.specs.Orders.{IsOrder}
-use Rattle.layout.specs.Points.{in_range, site_of, second_of, start_of}
+use Rattle.layout.specs.Points.{second_of, start_of}
 use Rattle.layout.proofs.TextWords.{text_high, text_outside, aimed_outside, target_small}
 use Rattle.layout.proofs.Full.{site_target}
-use Rattle.emit.specs.declared.entry.Entry.{Entry}
 use Rattle.emit.specs.declared.fault.EmitFault.{EmitFault}
-use Rattle.emit.specs.Entries.{Calls, is_number, moves, calls_of, in_order, function_entries, entries_with, part_entries, entries_of}
+use Rattle.emit.specs.Entries.{Calls, is_number, moves, calls_of, in_order, part_entries, entries_of}
 use Rattle.emit.specs.Emitted.{unreadable_as, part_fault, plan_unreadable}
-use Rattle.emit.proofs.Leading.{Moving, function_of, emitted, IsOutside, Leads, SiteAims, Aims, IsWord, IsRun, IsBlock, AllBlocks, AllFunctions, StartsIn}
+use Rattle.emit.proofs.Leading.{Moving, function_of, emitted, IsOutside, Leads, SiteAims, Aims, IsWord, IsRun, AllBlocks, AllFunctions, StartsIn}
 use Rattle.emit.proofs.Ordered.{all_in_order, begins_in_order}
 
 -- ---- the parts of a plan
@@ -65,9 +63,10 @@ counted p m e o = rw e at o
 ready_from : (p : Picture) (parts : List Moved) → All (λ m. m.func < length p.funcs) parts → All (λ m. IsOrder (block_count p m) m.order) parts → first_of (map (part_fault p) parts) ≡ None → AreReady p parts
 ready_from p [] there orders e = tt
 ready_from p (m ∷ ms) there orders e =
-    let f = none_first (fault_of p m.func) m.func (map (part_fault p) ms) e in
-    (record { func = get_or p.funcs m.func no_func; there = slice_get-get_or p.funcs m.func no_func (there 0 m (omega arith)); clean = f.0; order = counted p m f.0 (orders 0 m (omega arith)) },
-      ready_from p ms (λ i d lt. there (suc i) d (omega arith)) (λ i d lt. orders (suc i) d (omega arith)) f.1)
+    let f = none_first (fault_of p m.func) m.func (map (part_fault p) ms) e in (
+      record { func = get_or p.funcs m.func no_func; there = slice_get-get_or p.funcs m.func no_func (there 0 m (omega arith)); clean = f.0; order = counted p m f.0 (orders 0 m (omega arith)) },
+      ready_from p ms (λ i d lt. there (suc i) d (omega arith)) (λ i d lt. orders (suc i) d (omega arith)) f.1,
+    )
 
 pub ready : (p : Picture) (parts : List Moved) → IsPlanOf p parts → plan_unreadable p parts ≡ None → AreReady p parts
 unfolding plan_unreadable

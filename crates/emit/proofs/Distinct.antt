@@ -1,8 +1,8 @@
 -- In a layout no address has two Starts.
-use Rattle.std.proofs.Common.{◌≡◌, ◌≢◌, ℕ, zero, suc, ◌+◌, ◌-◌, ◌<◌, ◌≤◌, ◌==◌, Bool, true, false, not, List, [], ◌∷◌, ◌++◌, map, length, get_or, refl, sym, ◌∙◌, subst, ap, inl, inr, arith}
+use Rattle.std.proofs.Common.{◌≡◌, ◌≢◌, ℕ, zero, suc, ◌+◌, ◌<◌, ◌≤◌, ◌==◌, Bool, true, false, not, List, [], ◌∷◌, ◌++◌, map, length, refl, sym, ◌∙◌, subst, ap, inl, inr, arith}
 use Rattle.std.specs.Prelude.{Option, Some, None, ◌⊎◌, ◌&&◌, ◌||◌, AllPairs, slice_get, unwrap_or, if◌then◌else◌}
-use Rattle.std.specs.List.{flat_map, filter_map, cons_option, list_any}
-use Rattle.std.proofs.lemmas.Bool.{eqb-true, eq-eqb, false≢true}
+use Rattle.std.specs.List.{flat_map, cons_option}
+use Rattle.std.proofs.lemmas.Bool.{eq-eqb, false≢true}
 use Rattle.std.proofs.lemmas.Option.{slice_get_within, get_or_from_slice_get}
 use Rattle.rv_isa.specs.declared.instr.Cond.{Cond}
 use Rattle.rv_isa.specs.declared.instr.Instr.{Instr}
@@ -18,16 +18,15 @@ use Rattle.blocks.specs.Sound.{AreRuns, IsSound}
 use Rattle.blocks.specs.Sound as found
 use Rattle.blocks.proofs.Soundness.{sound, alone}
 use Rattle.plans.specs.declared.plan.Moved.{Moved}
-use Rattle.plans.specs.Orders.{is_among, repeats, IsOrder}
-use Rattle.layout.specs.declared.point.Point.{Point}
-use Rattle.layout.specs.declared.point.Point.TheVariants.{Start, Hop, Mid}
+use Rattle.plans.specs.Orders.{is_among, repeats}
+use Rattle.layout.specs.declared.point.Point.TheVariants.{Start}
 use Rattle.layout.specs.Rows.{opposite}
 use Rattle.emit.specs.declared.entry.Made.{Made}
-use Rattle.emit.specs.declared.entry.Made.TheVariants.{Same, Jump, Branch, High, Low}
+use Rattle.emit.specs.declared.entry.Made.TheVariants.{Same, Branch, High, Low}
 use Rattle.emit.specs.declared.entry.To.TheVariants.{Over}
 use Rattle.emit.specs.declared.entry.Entry.{Entry}
 use Rattle.emit.specs.Entries.{Calls, within, start, mid, hop, is_next, branch_of, rendered, word_entries, fall, run_entries, first_of, runs_entries, in_order, is_far, function_entries, is_start, place}
-use Rattle.emit.proofs.Leading.{Moving, function_of, emitted}
+use Rattle.emit.proofs.Leading.{function_of, emitted}
 use Rattle.emit.proofs.Places.{Occurs, occurs_left, occurs_right, is_start-true, is_start-own}
 use Rattle.emit.proofs.Assembled.{IsReady, AreReady, no_func, moving}
 
@@ -363,8 +362,10 @@ module _ (p : Picture) (kept : IsKept p) (c : Calls) where
       let s = sound p m.func r.func kept r.there r.clean in
       let f : unwrap_or (slice_get p.funcs m.func) no_func ≡ r.func = ap (λ o. unwrap_or o no_func) r.there in
       let far = is_far c r.func (in_order (runs_of p m.func) m.order) in
-      rw f (ordered_distinct p.texts c r.func (runs_of p m.func) far r.func.from r.func.to (runs_of p m.func) s.words m.order r.order.once,
-        λ z o. ordered_range p.texts c r.func (runs_of p m.func) far r.func.from r.func.to (runs_of p m.func) s.words m.order z o)
+      rw f (
+        ordered_distinct p.texts c r.func (runs_of p m.func) far r.func.from r.func.to (runs_of p m.func) s.words m.order r.order.once,
+        λ z o. ordered_range p.texts c r.func (runs_of p m.func) far r.func.from r.func.to (runs_of p m.func) s.words m.order z o,
+      )
 
   -- whose function a Start is in
   part_owner : (ms : List Moved) (z : ℕ) → AreReady p ms → Occurs z (emitted c (map (moving p) ms))

@@ -1,14 +1,14 @@
 -- What is emitted renders the image.
-use Rattle.std.proofs.Common.{◌≡◌, ℕ, ◌+◌, ◌*◌, ◌%◌, ◌≤◌, List, [], map, length, refl, sym, ◌∙◌, subst, ap, arith}
+use Rattle.std.proofs.Common.{◌≡◌, ℕ, ◌+◌, ◌*◌, ◌%◌, ◌≤◌, List, [], map, length, sym, ◌∙◌, subst, ap, arith}
 use Rattle.std.specs.Prelude.{Option, None}
 use Rattle.std.specs.Option.{option_and_then}
 use Rattle.std.proofs.lemmas.List.{length-map}
 use Rattle.image.specs.Texts.{word_at}
 use Rattle.image.specs.Picture.{Picture, IsKept}
 use Rattle.plans.specs.declared.plan.Moved.{Moved}
-use Rattle.plans.specs.Given.{plan_fault, IsPlanOf}
+use Rattle.plans.specs.Given.{plan_fault}
 use Rattle.plans.proofs.Planned.{planned}
-use Rattle.layout.specs.Laid.{Laid, IsLaid, AreCalls}
+use Rattle.layout.specs.Laid.{Laid, IsLaid}
 use Rattle.layout.specs.Points.{site_of, second_of, start_of}
 use Rattle.layout.specs.Rows.{Renders}
 use Rattle.layout.specs.Alone.{InRegion, AreCallsOf, RendersAlone}
@@ -19,14 +19,14 @@ use Rattle.emit.specs.declared.fault.EmitFault.TheVariants as fault
 use Rattle.emit.specs.Entries.{calls_of, entries_of}
 use Rattle.emit.specs.Placed.{ArePlaced, point_of, calls_in, Stops}
 use Rattle.emit.specs.Emitted.{IsMadeOf, plan_unreadable, Explains, ExplainsSize}
-use Rattle.emit.proofs.Leading.{emitted, IsOutside, StartsIn}
+use Rattle.emit.proofs.Leading.{IsOutside, StartsIn}
 use Rattle.emit.proofs.EntryRows.{Rows}
 use Rattle.emit.proofs.PlanRows.{starts_occur, plan_rows}
 use Rattle.emit.proofs.Halves.{Halves, all_halves}
 use Rattle.emit.proofs.Places.{Occurs}
 use Rattle.emit.proofs.Laid.{renders}
 use Rattle.emit.proofs.Listed.{calls_exact, calls_rise, calls_within}
-use Rattle.emit.proofs.Assembled.{AreReady, moving, ready, entries_are, assembled}
+use Rattle.emit.proofs.Assembled.{moving, ready, entries_are, assembled}
 
 pub emitted_renders : (p : Picture) (parts : List Moved) (l : Laid) → IsKept p → plan_fault p parts ≡ None → plan_unreadable p parts ≡ None → IsLaid l
     → IsMadeOf p (entries_of p parts) l.base l → InRegion p l.base (length l.words) → RendersAlone p l

@@ -1,7 +1,6 @@
 -- Each word of a layout that isn't placed renders the word that it stands for.
-use Rattle.std.proofs.Common.{◌≡◌, ◌≢◌, ℕ, ◌+◌, ◌≤◌, ◌<◌, ◌==◌, Bool, true, false, cond, not, List, [], ◌∷◌, ◌++◌, append_assoc, refl, sym, ◌∙◌, subst, ap, arith}
-use Rattle.std.specs.Prelude.{Option, Some, None, ℤ, nat_le, nat_lt, ◌&&◌, if◌then◌else◌}
-use Rattle.std.specs.List.{flat_map}
+use Rattle.std.proofs.Common.{◌≡◌, ◌≢◌, ℕ, ◌+◌, ◌==◌, Bool, true, false, List, [], ◌∷◌, ◌++◌, append_assoc, refl, sym, subst}
+use Rattle.std.specs.Prelude.{Option, Some, None, ℤ, if◌then◌else◌}
 use Rattle.std.proofs.lemmas.Bool.{eqb-true, eqb-false}
 use Rattle.rv_isa.specs.declared.instr.Cond.{Cond}
 use Rattle.rv_isa.specs.declared.instr.Instr.{Instr}
@@ -17,13 +16,10 @@ use Rattle.layout.specs.Rows.{IsKept, opposite}
 use Rattle.layout.proofs.TextRows.{read_is}
 use Rattle.emit.specs.declared.entry.To.{To}
 use Rattle.emit.specs.declared.entry.To.TheVariants.{Here, There, Over}
-use Rattle.emit.specs.declared.entry.Made.{Made}
 use Rattle.emit.specs.declared.entry.Made.TheVariants.{Same, Jump, Branch, High, Low}
 use Rattle.emit.specs.declared.entry.Entry.{Entry}
-use Rattle.blocks.specs.declared.word.Word.{Word}
-use Rattle.blocks.specs.declared.run.Run.{Run}
 use Rattle.emit.proofs.Leading.{Leads, SiteAims, Aims}
-use Rattle.emit.specs.Entries.{Calls, called, called_by, second_word, second_by, within, start, mid, hop, is_next, branch_of, rendered, word_entries, fall, run_entries, first_of, runs_entries}
+use Rattle.emit.specs.Entries.{Calls, called, called_by, second_word, second_by, within, start, mid, hop, is_next, branch_of, rendered}
 
 abbrev pub StandsAs : Point → ℕ → Type 0
 StandsAs (Start x) y = x ≡ y

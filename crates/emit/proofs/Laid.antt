@@ -1,12 +1,11 @@
 -- A layout at its base renders the image, word by word.
-use Rattle.std.proofs.Common.{◌≡◌, ◌≢◌, ℕ, zero, suc, ◌+◌, ◌-◌, ◌*◌, ◌^◌, ◌≤◌, ◌<◌, Bool, true, false, List, [], ◌∷◌, ◌++◌, length, map, refl, sym, ◌∙◌, subst, ap, inl, inr, arith}
-use Rattle.std.specs.Prelude.{Option, Some, None, ℤ, pos, ◌-ℤ◌, ◌⊎◌, slice_get, is_some, IsSome}
+use Rattle.std.proofs.Common.{◌≡◌, ◌≢◌, ℕ, suc, ◌+◌, ◌-◌, ◌*◌, ◌^◌, ◌≤◌, ◌<◌, Bool, true, false, List, [], ◌∷◌, length, map, refl, sym, ◌∙◌, subst, ap, arith}
+use Rattle.std.specs.Prelude.{Option, Some, None, pos, ◌-ℤ◌, slice_get, is_some, IsSome}
 use Rattle.std.specs.Option.{option_map}
 use Rattle.std.proofs.lemmas.Option.{slice_get_within, slice_get-map, slice_get-get_or}
 use Rattle.std.proofs.lemmas.Bool.{false≢true}
 use Rattle.std.proofs.lemmas.List.{append-nil}
 use Rattle.rv_isa.specs.Decoded.{decoded}
-use Rattle.rv_isa.specs.declared.instr.Cond.{Cond}
 use Rattle.rv_isa.specs.declared.instr.Instr.{Instr}
 use Rattle.rv_isa.specs.declared.instr.Instr.TheVariants as instr
 use Rattle.image.specs.Targets.{target, made_by}
@@ -14,8 +13,8 @@ use Rattle.image.specs.Texts.{word_at}
 use Rattle.image.specs.Picture.{Picture, IsKept}
 use Rattle.layout.specs.declared.point.Point.{Point}
 use Rattle.layout.specs.declared.point.Point.TheVariants.{Start, Hop, Mid}
-use Rattle.layout.specs.Laid.{Laid, IsLaid, item_at, point_in}
-use Rattle.layout.specs.Points.{Code, StandsFor, at_start, at_hop, in_range, read}
+use Rattle.layout.specs.Laid.{Laid, IsLaid, point_in}
+use Rattle.layout.specs.Points.{StandsFor, at_start, at_hop, in_range, read}
 use Rattle.layout.specs.Rows.{Near, Next, AimsAt, MovedRow, StartRow, HopRow, MidRow, Renders}
 use Rattle.layout.specs.Rows as rows
 use Rattle.layout.specs.Alone.{InRegion}
@@ -25,7 +24,7 @@ use Rattle.layout.proofs.TextRows.{read_is, text_row}
 use Rattle.emit.specs.declared.entry.To.{To}
 use Rattle.emit.specs.declared.entry.To.TheVariants.{Here, There, Over}
 use Rattle.emit.specs.declared.entry.Made.{Made}
-use Rattle.emit.specs.declared.entry.Made.TheVariants.{Same, Jump, Branch, High, Low}
+use Rattle.emit.specs.declared.entry.Made.TheVariants.{Jump, High, Low}
 use Rattle.emit.specs.declared.entry.Entry.{Entry}
 use Rattle.emit.specs.Entries.{place, start, mid}
 use Rattle.emit.specs.Placed.{aim, IsMade, ArePlaced, InReach, IsOut, high_of, low_of, point_of}
@@ -40,7 +39,7 @@ is_high (High rd v) = true
 is_high _ = false
 
 module _ (p : Picture) (is_kept : IsKept p) (l : Laid) (laid : IsLaid l) (within : InRegion p l.base (length l.words)) (es : List Entry) (points : l.points ≡ map point_of es) (placed : ArePlaced l.base es l.words)
-  (known : ℕ → Type 0) (occurs : (y : ℕ) → known y → Occurs y es) where
+    (known : ℕ → Type 0) (occurs : (y : ℕ) → known y → Occurs y es) where
   abbrev pub text : ℕ → Option ℕ
   text = word_at p.texts
 
@@ -223,10 +222,12 @@ module _ (p : Picture) (is_kept : IsKept p) (l : Laid) (laid : IsLaid l) (within
     start_row x h (call_second y rd rs g off q t m b n) =
         let z : y ≡ x = cc in
         let v = made k e _ s q in
-        subst (λ (m : ℕ). StartRow (plain p l) (l.base + 4 * k) m × IsSome (read text m)) z
-        (rows.call_second rd rs g off _ t m (reads_here k v.0 _ v.1 v.2)
-          (rw (target_back (l.base + 4 * k) (l.base + 4 * place g es) (here_low g b)) (here_point g b))
-          (λ r. next k e s after rest (y + 4) (n r)), ap is_some t)
+        subst (λ (m : ℕ). StartRow (plain p l) (l.base + 4 * k) m × IsSome (read text m)) z (
+          rows.call_second rd rs g off _ t m (reads_here k v.0 _ v.1 v.2)
+              (rw (target_back (l.base + 4 * k) (l.base + 4 * place g es) (here_low g b)) (here_point g b))
+              (λ r. next k e s after rest (y + 4) (n r)),
+          ap is_some t,
+        )
     start_row x h (branch y c rs1 rs2 off to q t u n) =
         let z : y ≡ x = cc in
         let v = made k e _ s q in

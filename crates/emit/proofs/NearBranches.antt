@@ -1,9 +1,8 @@
 -- A short branch reaches its target wherever the layout stands: what is in reach when every branch of the function is long is in reach.
-use Rattle.std.proofs.Common.{◌≡◌, ℕ, zero, suc, ◌+◌, ◌-◌, ◌<◌, ◌≤◌, ◌==◌, Bool, true, false, not, List, [], ◌∷◌, ◌++◌, append_assoc, map, length, length-append, get_or, refl, sym, ◌∙◌, subst, ap, inl, inr, arith}
+use Rattle.std.proofs.Common.{◌≡◌, ℕ, zero, suc, ◌+◌, ◌==◌, Bool, true, false, not, List, [], ◌∷◌, ◌++◌, append_assoc, map, length, length-append, refl, sym, ◌∙◌, subst, ap, inl, inr, arith}
 use Rattle.std.specs.Prelude.{Option, Some, None, ◌⊎◌, ◌&&◌, nat_le, slice_get, unwrap_or, option_and_then, if◌then◌else◌}
-use Rattle.std.specs.List.{flat_map, filter_map, cons_option}
-use Rattle.std.proofs.lemmas.Bool.{and_parts, and_from, leb-true, le-leb, false≢true, cases_lt}
-use Rattle.std.proofs.lemmas.Option.{slice_get_within}
+use Rattle.std.specs.List.{flat_map, cons_option}
+use Rattle.std.proofs.lemmas.Bool.{and_parts, and_from, leb-true, le-leb}
 use Rattle.rv_isa.specs.declared.instr.Cond.{Cond}
 use Rattle.rv_isa.specs.declared.instr.Instr.{Instr}
 use Rattle.rv_isa.specs.declared.instr.Instr.TheVariants as instr
@@ -30,16 +29,16 @@ use Rattle.emit.specs.declared.entry.To.TheVariants.{Here, There, Over}
 use Rattle.emit.specs.declared.entry.Made.{Made}
 use Rattle.emit.specs.declared.entry.Made.TheVariants.{Same, Jump, Branch, High, Low}
 use Rattle.emit.specs.declared.entry.Entry.{Entry}
-use Rattle.emit.specs.Entries.{Calls, calls_of, called, second_word, second_by, within, start, mid, hop, is_next, branch_of, rendered, word_entries, fall, run_entries, first_of, runs_entries, in_order, longest, is_far, function_entries, place, reaches, entries_of}
+use Rattle.emit.specs.Entries.{Calls, calls_of, second_word, second_by, within, start, mid, hop, is_next, branch_of, rendered, word_entries, fall, run_entries, first_of, runs_entries, in_order, longest, is_far, function_entries, place, reaches, entries_of}
 use Rattle.emit.specs.Placed.{IsNear, MadeNear, AreNear}
 use Rattle.emit.specs.Emitted.{plan_unreadable}
-use Rattle.emit.proofs.Leading.{Moving, function_of, emitted, IsOutside, AllBlocks, AllFunctions, StartsIn}
+use Rattle.emit.proofs.Leading.{function_of, emitted, IsOutside, AllBlocks, AllFunctions, StartsIn}
 use Rattle.emit.proofs.Places.{Occurs, occurs_left}
 use Rattle.emit.proofs.Ordered.{begins_in_order}
 use Rattle.emit.proofs.PlanRows.{runs_occur}
 use Rattle.emit.proofs.Thinner.{reaches_still, thin_runs}
 use Rattle.emit.proofs.Assembled.{IsReady, AreReady, no_func, moving, ready, entries_are, assembled}
-use Rattle.emit.proofs.Distinct.{Distinct, distinct_left, distinct_right, distinct_apart, occurs_at, place_own, place_left, place_skip, all_distinct}
+use Rattle.emit.proofs.Distinct.{Distinct, distinct_left, distinct_right, distinct_apart, place_own, place_left, place_skip, all_distinct}
 
 -- each branch of these words is a Start, and goes to a place of which P holds
 abbrev IsForked : (ℕ → To → Type 0) → Point → Made → Type 0
@@ -180,7 +179,7 @@ module _ (p : Picture) (kept : IsKept p) (c : Calls) (known : ℕ → Type 0) wh
 
   -- the branches of a part, where its words stand behind others
   module _ (m : Moved) (r : IsReady p m) (all : AllBlocks (word_at p.texts) second known (IsOutside p) c r.func (in_order (runs_of p m.func) m.order))
-    (pre post es : List Entry) (is : es ≡ pre ++ (words m r ++ post)) (d : Distinct es) where
+      (pre post es : List Entry) (is : es ≡ pre ++ (words m r ++ post)) (d : Distinct es) where
     own : Distinct (words m r)
     own = distinct_left (words m r) post (distinct_right pre (words m r ++ post) (subst Distinct is d))
 
@@ -258,6 +257,6 @@ are_near p parts kept plan clean =
     let es = emitted (calls_of p parts) (map (moving p) parts) in
     rw (entries_are p parts r)
     (record {
-        each = λ k e s. subst (λ (n : ℕ). MadeNear es n e.made) (omega arith)
-            (near_parts p kept (calls_of p parts) (StartsIn (map (moving p) parts)) parts r all [] es refl (all_distinct p kept (calls_of p parts) parts r plan.once) k e s);
-      })
+      each = λ k e s. subst (λ (n : ℕ). MadeNear es n e.made) (omega arith)
+          (near_parts p kept (calls_of p parts) (StartsIn (map (moving p) parts)) parts r all [] es refl (all_distinct p kept (calls_of p parts) parts r plan.once) k e s);
+    })

@@ -1,13 +1,11 @@
 -- The parts of a plan, one after another.
-use Rattle.std.proofs.Common.{◌≡◌, ℕ, zero, suc, ◌+◌, ◌^◌, ◌<◌, ◌≤◌, List, [], ◌∷◌, ◌++◌, map, length, get_or, drop, append_assoc, refl, sym, ◌∙◌, subst, ap, arith}
-use Rattle.std.specs.Prelude.{Option, Some, None, All, slice_get}
+use Rattle.std.proofs.Common.{◌≡◌, ℕ, ◌+◌, ◌^◌, ◌<◌, ◌≤◌, List, [], ◌∷◌, ◌++◌, map, length, get_or, drop, append_assoc, sym, ◌∙◌, ap, arith}
+use Rattle.std.specs.Prelude.{Some, None, All, slice_get}
 use Rattle.std.specs.List.{flat_map}
 use Rattle.std.specs.Option.{option_map}
 use Rattle.std.proofs.lemmas.List.{drop_more, drop_all}
 use Rattle.std.proofs.lemmas.List.Elements.{All-nil, All-cons}
-use Rattle.std.proofs.lemmas.Option.{slice_get_read}
 use Rattle.finite.specs.First.{first_of}
-use Rattle.image.specs.declared.ranges.TextRange.{TextRange}
 use Rattle.image.specs.declared.ranges.Func.{Func}
 use Rattle.image.specs.Picture.{Picture, IsKept}
 use Rattle.blocks.specs.declared.fault.Unreadable.{Unreadable}
@@ -15,7 +13,7 @@ use Rattle.blocks.specs.declared.word.Word.{Word}
 use Rattle.blocks.specs.declared.run.Run.{Run}
 use Rattle.blocks.specs.Faults.{fault_of}
 use Rattle.blocks.specs.Blocks.{runs_of}
-use Rattle.blocks.specs.Sound.{IsWord, IsRun, AreRuns, IsSound}
+use Rattle.blocks.specs.Sound.{IsWord, IsRun, AreRuns}
 use Rattle.blocks.proofs.Soundness.{sound}
 use Rattle.plans.specs.declared.plan.Moved.{Moved}
 use Rattle.plans.specs.Given.{block_count}
@@ -24,7 +22,7 @@ use Rattle.layout.proofs.TextWords.{text_high}
 use Rattle.emit.specs.declared.entry.Entry.{Entry}
 use Rattle.emit.specs.declared.fault.EmitFault.{EmitFault}
 use Rattle.emit.specs.declared.fault.EmitFault.TheVariants as fault
-use Rattle.emit.specs.Entries.{Calls, part_entries, entries_with}
+use Rattle.emit.specs.Entries.{Calls, part_entries}
 use Rattle.emit.specs.Emitted.{unreadable_as, part_fault, IsFault, plan_unreadable, ExplainsSize}
 
 -- ---- words lie in the guest's space

@@ -1,6 +1,6 @@
 -- A plan's layout renders the original program, at each base in reach.
-use Rattle.std.proofs.Common.{◌≡◌, ℕ, ◌+◌, ◌*◌, Bool, List, [], ◌∷◌, ◌++◌, length, map, refl, sym, ◌∙◌, subst, ap, inl, inr, append_assoc}
-use Rattle.std.specs.Prelude.{Option, Some, None, ◌⊎◌}
+use Rattle.std.proofs.Common.{◌≡◌, ℕ, Bool, List, [], ◌∷◌, ◌++◌, sym, ◌∙◌, subst, inl, inr}
+use Rattle.std.specs.Prelude.{Option}
 use Rattle.std.specs.List.{flat_map}
 use Rattle.std.proofs.lemmas.List.{append-nil}
 use Rattle.rv_isa.specs.declared.instr.Instr.{Instr}
@@ -11,7 +11,7 @@ use Rattle.blocks.specs.declared.word.Word.{Word}
 use Rattle.blocks.specs.declared.run.Run.{Run}
 use Rattle.blocks.specs.Sound.{Begins}
 use Rattle.emit.specs.Entries.{Calls, rendered, word_entries, fall, run_entries, first_of, runs_entries, is_far, function_entries}
-use Rattle.emit.proofs.Leading.{Moving, function_of, emitted, IsWord, IsRun, IsBlock, AllBlocks, AllFunctions, StartsIn}
+use Rattle.emit.proofs.Leading.{Moving, function_of, emitted, IsRun, IsBlock, AllBlocks, AllFunctions, StartsIn}
 use Rattle.emit.proofs.EntryRows.{Rows, rows_append}
 use Rattle.emit.proofs.RunRows.{rendered_first, runs_rows}
 use Rattle.emit.proofs.Places.{Occurs, occurs_left, occurs_right}
@@ -59,4 +59,3 @@ module _ (text second : ℕ → Option ℕ) (known outside : ℕ → Type 0) (c 
   plan_rows (m ∷ ms) rest a =
       rows_append text second known outside (function_of c m) (emitted c ms) rest
       (runs_rows text second known outside c m.func (is_far c m.func m.runs) m.runs (emitted c ms ++ rest) a.0) (plan_rows ms rest a.1)
-

@@ -1,27 +1,23 @@
 -- Blocks and functions of a layout that isn't placed: each word renders the word that it stands for.
-use Rattle.std.proofs.Common.{◌≡◌, ◌≢◌, ℕ, ◌+◌, ◌≤◌, ◌<◌, ◌==◌, Bool, true, false, cond, not, List, [], ◌∷◌, ◌++◌, append_assoc, refl, sym, ◌∙◌, subst, ap, inl, inr, arith}
-use Rattle.std.specs.Prelude.{Option, Some, None, ℤ, ◌⊎◌, nat_le, nat_lt, ◌&&◌, if◌then◌else◌}
+use Rattle.std.proofs.Common.{◌≡◌, ◌≢◌, ℕ, ◌+◌, ◌==◌, Bool, true, false, not, List, [], ◌∷◌, ◌++◌, append_assoc, refl, sym, ◌∙◌, subst}
+use Rattle.std.specs.Prelude.{Option, ◌&&◌, if◌then◌else◌}
 use Rattle.std.specs.List.{flat_map}
-use Rattle.std.proofs.lemmas.Bool.{eqb-true, eqb-false}
-use Rattle.rv_isa.specs.declared.instr.Cond.{Cond}
+use Rattle.std.proofs.lemmas.Bool.{eqb-true}
 use Rattle.rv_isa.specs.declared.instr.Instr.{Instr}
 use Rattle.rv_isa.specs.declared.instr.Instr.TheVariants as instr
-use Rattle.rv_isa.specs.Decoded.{decoded}
-use Rattle.layout.specs.declared.point.Point.{Point}
-use Rattle.layout.specs.declared.point.Point.TheVariants.{Start, Hop, Mid}
+use Rattle.layout.specs.declared.point.Point.TheVariants.{Start}
 use Rattle.image.specs.declared.ranges.Func.{Func}
-use Rattle.image.specs.Aims.{is_inside}
 use Rattle.image.specs.Targets.{target, made_by}
 use Rattle.layout.specs.Rows.{opposite}
-use Rattle.emit.specs.declared.entry.Made.TheVariants.{Same, Jump, Branch, High, Low}
-use Rattle.emit.specs.declared.entry.To.TheVariants.{Here, There, Over}
+use Rattle.emit.specs.declared.entry.Made.TheVariants.{Same, Branch, High, Low}
+use Rattle.emit.specs.declared.entry.To.TheVariants.{Over}
 use Rattle.emit.specs.declared.entry.Entry.{Entry}
 use Rattle.blocks.specs.declared.word.Word.{Word}
 use Rattle.blocks.specs.declared.run.Run.{Run}
-use Rattle.emit.proofs.Leading.{Leads, Aims, IsWord, IsRun, IsBlock, AllBlocks}
+use Rattle.emit.proofs.Leading.{Leads, IsWord, IsRun, IsBlock, AllBlocks}
 use Rattle.emit.specs.Entries.{Calls, within, start, mid, hop, is_next, branch_of, rendered, word_entries, fall, run_entries, first_of, runs_entries}
 use Rattle.blocks.specs.Words.{falls_of}
-use Rattle.emit.proofs.EntryRows.{Ahead, EntryRow, Rows, rows_append, NextIs, hop_row, Continues, word_rows}
+use Rattle.emit.proofs.EntryRows.{Ahead, Rows, rows_append, NextIs, hop_row, Continues, word_rows}
 
 -- the words of an instruction begin with its Start
 pub rendered_first : (c : Calls) (f : Func) (next : Option ℕ) (far : ℕ → Bool) (x w : ℕ) (i : Instr) (more : List Entry)

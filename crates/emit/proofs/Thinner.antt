@@ -1,22 +1,20 @@
 -- A function's words are no further apart than when every branch is long.
-use Rattle.std.proofs.Common.{◌≡◌, ℕ, ◌+◌, ◌-◌, ◌<◌, ◌≤◌, ◌==◌, Bool, true, false, not, List, [], ◌∷◌, ◌++◌, append_assoc, refl, sym, ◌∙◌, subst, ap, inl, inr, arith}
-use Rattle.std.specs.Prelude.{Option, Some, None, ◌&&◌, nat_le, nat_lt, if◌then◌else◌}
+use Rattle.std.proofs.Common.{◌≡◌, ℕ, ◌+◌, ◌<◌, ◌≤◌, Bool, true, false, List, [], ◌∷◌, ◌++◌, refl, inl, inr, arith}
+use Rattle.std.specs.Prelude.{Option, nat_le, if◌then◌else◌}
 use Rattle.std.specs.List.{flat_map}
 use Rattle.std.proofs.lemmas.Bool.{and_parts, and_from, leb-true, le-leb, cases_lt}
 use Rattle.rv_isa.specs.declared.instr.Cond.{Cond}
 use Rattle.rv_isa.specs.declared.instr.Instr.{Instr}
 use Rattle.rv_isa.specs.declared.instr.Instr.TheVariants as instr
 use Rattle.image.specs.declared.ranges.Func.{Func}
-use Rattle.image.specs.Aims.{is_inside}
-use Rattle.image.specs.Targets.{target, made_by}
+use Rattle.image.specs.Targets.{target}
 use Rattle.layout.specs.Rows.{opposite}
-use Rattle.layout.specs.declared.point.Point.TheVariants.{Start, Hop, Mid}
 use Rattle.emit.specs.declared.entry.To.TheVariants.{Over}
-use Rattle.emit.specs.declared.entry.Made.TheVariants.{Same, Jump, Branch, High, Low}
+use Rattle.emit.specs.declared.entry.Made.TheVariants.{Same, Branch}
 use Rattle.emit.specs.declared.entry.Entry.{Entry}
 use Rattle.blocks.specs.declared.word.Word.{Word}
 use Rattle.blocks.specs.declared.run.Run.{Run}
-use Rattle.emit.specs.Entries.{Calls, within, start, mid, hop, is_next, branch_of, rendered, word_entries, fall, run_entries, first_of, runs_entries, is_start, place, reaches}
+use Rattle.emit.specs.Entries.{Calls, within, start, hop, is_next, branch_of, rendered, word_entries, fall, run_entries, first_of, runs_entries, is_start, place, reaches}
 
 -- the points of es are those of ds, without some Hops
 pub data Thinned : List Entry → List Entry → Type 0 where

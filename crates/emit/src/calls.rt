@@ -47,7 +47,11 @@ fn starts_of(alloc: Global, image: &Image, parts: &[Moved]) -> Result<BTreeSet<u
 
 impl CallTable<'_> {
     /// The table of an image and the parts of a plan.
-    pub fn new<'a>(alloc: Global, image: &'a Image, parts: &'a [Moved]) -> Result<CallTable<'a>, NoMemory>
+    pub fn new<'a>(
+        alloc: Global,
+        image: &'a Image,
+        parts: &'a [Moved],
+    ) -> Result<CallTable<'a>, NoMemory>
         ensures image { IfOk result (λ t. t.image.now ≡ image.now) }
         ensures parts { IfOk result (λ t. t.parts.now ≡ parts.now) }
     {

@@ -60,26 +60,44 @@ fn push_call(out: &mut Vec<Aim>, at: u64, call: Option<u32>) -> Result<(), NoMem
 
 /// The sites among the words of a layout.
 #[tactic(auto, using(crate::proofs::Listed::calls_more))]
-pub fn sites_in(alloc: Global, image: &Image, base: u64, entries: &[Entry]) -> Result<Vec<Aim>, NoMemory>
+pub fn sites_in(
+    alloc: Global,
+    image: &Image,
+    base: u64,
+    entries: &[Entry],
+) -> Result<Vec<Aim>, NoMemory>
     requires { base + 4 * length entries.now ≤ 0x08000000 }
     ensures { IfOk result (λ out. out.items ≡ calls_in (site_of image.now) base entries.now) }
 {
     let mut out = Vec::new(alloc);
     for i in 0..entries.len() {
-        push_call(&mut out, base + 4 * i as u64, site_at(image, entries[i].point))?;
+        push_call(
+            &mut out,
+            base + 4 * i as u64,
+            site_at(image, entries[i].point),
+        )?;
     }
     Ok(out)
 }
 
 /// The second words of pairs among the words of a layout.
 #[tactic(auto, using(crate::proofs::Listed::calls_more))]
-pub fn pairs_in(alloc: Global, image: &Image, base: u64, entries: &[Entry]) -> Result<Vec<Aim>, NoMemory>
+pub fn pairs_in(
+    alloc: Global,
+    image: &Image,
+    base: u64,
+    entries: &[Entry],
+) -> Result<Vec<Aim>, NoMemory>
     requires { base + 4 * length entries.now ≤ 0x08000000 }
     ensures { IfOk result (λ out. out.items ≡ calls_in (second_of image.now) base entries.now) }
 {
     let mut out = Vec::new(alloc);
     for i in 0..entries.len() {
-        push_call(&mut out, base + 4 * i as u64, second_at(image, entries[i].point))?;
+        push_call(
+            &mut out,
+            base + 4 * i as u64,
+            second_at(image, entries[i].point),
+        )?;
     }
     Ok(out)
 }

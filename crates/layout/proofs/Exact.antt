@@ -1,7 +1,7 @@
 -- The tests of a layout's words and lists tell exactly whether it renders its image.
-use Rattle.std.proofs.Common.{◌≡◌, ◌≢◌, ℕ, ◌+◌, ◌-◌, ◌*◌, ◌==◌, ◌≤◌, ◌<◌, Bool, true, false, not, List, length, get_or, refl, sym, ◌∙◌, ap, subst, inl, inr, arith}
-use Rattle.std.specs.Prelude.{Option, Some, None, ℤ, ◌⊎◌, ◌&&◌, ◌||◌, nat_le, is_some, IsSome, position, slice_get, if◌then◌else◌}
-use Rattle.std.specs.List.{All, Contains, list_any}
+use Rattle.std.proofs.Common.{◌≡◌, ◌≢◌, ℕ, ◌+◌, ◌-◌, ◌*◌, ◌==◌, ◌≤◌, ◌<◌, Bool, true, false, not, List, length, get_or, refl, sym, ◌∙◌, ap, subst, arith}
+use Rattle.std.specs.Prelude.{Option, Some, None, ◌&&◌, nat_le, is_some, IsSome, position}
+use Rattle.std.specs.List.{All, Contains}
 use Rattle.std.proofs.lemmas.Bool.{eqb-true, eq-eqb, leb-true, le-leb, and_parts, and_from, false≢true}
 use Rattle.std.proofs.lemmas.Option.{slice_get-get_or, slice_get_within}
 use Rattle.std.proofs.lemmas.List.Elements.{All-contains, Contains-get_or}
@@ -19,10 +19,10 @@ use Rattle.image.specs.Picture.{Picture, IsKept}
 use Rattle.layout.specs.declared.point.Point.{Point}
 use Rattle.layout.specs.declared.point.Point.TheVariants.{Start, Hop, Mid}
 use Rattle.layout.specs.Laid.{Laid, IsLaid, item_at, point_in}
-use Rattle.layout.specs.Points.{Code, StandsFor, in_range, read, site_of, second_of}
+use Rattle.layout.specs.Points.{in_range, read, site_of, second_of}
 use Rattle.layout.specs.Rows.{MovedRow, StartRow, HopRow, MidRow, Renders}
-use Rattle.layout.specs.Alone.{alone, InRegion, called_at, AreCallsOf, NamesCalls, RendersAlone}
-use Rattle.layout.specs.Tests.{is_number, starts_as, starts, row_test, start_by, start_over, start_test, hop_by, hop_test, makes_address, mid_test, point_test, listed, word_test, site_test, pair_test}
+use Rattle.layout.specs.Alone.{InRegion, called_at, AreCallsOf, NamesCalls, RendersAlone}
+use Rattle.layout.specs.Tests.{is_number, starts_as, starts, start_by, start_over, start_test, hop_by, hop_test, makes_address, mid_test, point_test, listed, word_test, site_test, pair_test}
 use Rattle.layout.proofs.TextWords.{text_outside}
 use Rattle.layout.proofs.TextRows.{read_is, read_same, read_back, text_row}
 use Rattle.layout.proofs.Places.{item_here, item_place}

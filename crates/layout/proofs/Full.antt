@@ -1,7 +1,6 @@
 -- A word that renders what it stands for passes its test.
-use Rattle.std.proofs.Common.{◌≡◌, ◌≢◌, ℕ, ◌+◌, ◌-◌, ◌==◌, ◌≤◌, ◌<◌, Bool, true, false, not, List, get_or, refl, sym, ◌∙◌, ap, subst, inl, inr, arith}
-use Rattle.std.specs.Prelude.{Option, Some, None, ℤ, ◌⊎◌, ◌&&◌, ◌||◌, nat_le, length, IsSome, find, is_some, position, slice_get, option_and_then, if◌then◌else◌}
-use Rattle.std.specs.List.{All, Contains}
+use Rattle.std.proofs.Common.{◌≡◌, ◌≢◌, ℕ, ◌+◌, ◌==◌, Bool, true, false, refl, sym, ◌∙◌, ap, subst, inl, inr, arith}
+use Rattle.std.specs.Prelude.{Option, Some, None, ℤ, ◌⊎◌, ◌&&◌, ◌||◌, length, find, is_some, option_and_then, if◌then◌else◌}
 use Rattle.std.specs.Option.{option_map}
 use Rattle.std.proofs.lemmas.Bool.{eqb-true, eq-eqb, and_from, or_left, false≢true}
 use Rattle.std.proofs.lemmas.Option.{slice_get-get_or}
@@ -13,25 +12,24 @@ use Rattle.rv_isa.specs.declared.instr.Cond.TheVariants.{Eq, Ne, Lt, Ge, Ltu, Ge
 use Rattle.rv_isa.specs.declared.instr.ImmOp.TheVariants as ops
 use Rattle.rv_isa.specs.declared.instr.Instr.{Instr}
 use Rattle.rv_isa.specs.declared.instr.Instr.TheVariants as instr
-use Rattle.image.specs.declared.ranges.TextRange.{TextRange}
 use Rattle.image.specs.declared.ranges.Func.{Func}
 use Rattle.image.specs.declared.ranges.Aim.{Aim}
-use Rattle.image.specs.Jumps.{call_of, jal_target}
+use Rattle.image.specs.Jumps.{jal_target}
 use Rattle.image.specs.Aims.{func_start, func_from, aim_place, site_at}
 use Rattle.image.specs.Targets.{target, made_by}
 use Rattle.image.specs.Texts.{word_at}
 use Rattle.image.specs.Picture.{Picture, IsKept}
 use Rattle.layout.specs.declared.point.Point.{Point}
-use Rattle.layout.specs.declared.point.Point.TheVariants.{Start, Hop, Mid}
+use Rattle.layout.specs.declared.point.Point.TheVariants.{Start, Mid}
 use Rattle.layout.specs.Laid.{Laid, IsLaid, item_at, point_in}
-use Rattle.layout.specs.Points.{Code, StandsFor, at_start, at_hop, read, aim_func, site_of, second_of, start_of}
+use Rattle.layout.specs.Points.{StandsFor, at_start, at_hop, read, aim_func, site_of, start_of}
 use Rattle.layout.specs.Rows.{opposite, Near, Next, AimsAt, MovedRow, StartRow, HopRow, no_word, unread, kept, address_in_place, address_moved, jump, site, jump_register, call_second, branch, branch_inverted}
 use Rattle.layout.specs.Rows as rows
 use Rattle.layout.specs.Alone.{InRegion}
-use Rattle.layout.specs.Tests.{same_cond, stands_as, starts_as, is_mid, point_alone, stands, starts, returns, kept_test, sum_test, moved_test, jump_test, starts_at, second_test, branch_test, row_test}
+use Rattle.layout.specs.Tests.{same_cond, is_mid, stands, starts, returns, kept_test, sum_test, moved_test, jump_test, starts_at, second_test, branch_test, row_test}
 use Rattle.layout.proofs.TextWords.{found}
 use Rattle.layout.proofs.TextRows.{read_is, read_same}
-use Rattle.layout.proofs.Plain.{plain, here_point_is, here_home_is, here_word_is, point_back, home_back}
+use Rattle.layout.proofs.Plain.{plain, here_home_is, here_word_is, point_back, home_back}
 
 or_right : (a b : Bool) → b ≡ true → a || b ≡ true
 or_right true b p = refl
@@ -197,10 +195,10 @@ module _ (p : Picture) (l : Laid) where
       unfolding branch_test
       branch_full k rs1 rs2 off aim j (inl h) =
           rw h.0 (and_from ((rs1 == rs1) && (rs2 == rs2)) _ (and_from (rs1 == rs1) (rs2 == rs2) (eq-eqb rs1 rs1 refl) (eq-eqb rs2 rs2 refl))
-            (or_left _ _ (and_from _ _ (and_from _ _ (same_full k) (stands_full _ _ h.1)) (stands_full _ _ h.2))))
+          (or_left _ _ (and_from _ _ (and_from _ _ (same_full k) (stands_full _ _ h.1)) (stands_full _ _ h.2))))
       branch_full k rs1 rs2 off aim j (inr h) =
           rw h.0 (and_from ((rs1 == rs1) && (rs2 == rs2)) _ (and_from (rs1 == rs1) (rs2 == rs2) (eq-eqb rs1 rs1 refl) (eq-eqb rs2 rs2 refl))
-            (or_right _ _ (and_from _ _ (and_from _ _ (same_full (opposite k)) (stands_full _ _ h.1)) (stands_full _ _ h.2))))
+          (or_right _ _ (and_from _ _ (and_from _ _ (same_full (opposite k)) (stands_full _ _ h.1)) (stands_full _ _ h.2))))
 
       address_full : (rd imm : ℕ) → decoded w ≡ Some (instr.Auipc rd imm) → RowOf (instr.Auipc rd imm) → (if rd == 0 then kept_test p l a x w v else moved_test p l a x rd imm (decoded v)) ≡ true
       address_full rd imm d (inl h) = rw (eq-eqb rd 0 h.0) (kept_full h.1 h.2)
@@ -214,7 +212,7 @@ module _ (p : Picture) (l : Laid) where
       unfolding jump_test
       jump_full rd off aim j e s n =
           rw e (and_from ((rd == rd) && stands p l (target a aim) (target x off)) (returns p l a rd (x + 4))
-            (and_from (rd == rd) (stands p l (target a aim) (target x off)) (eq-eqb rd rd refl) (stands_full (target a aim) (target x off) s)) (returns_full rd (x + 4) n))
+          (and_from (rd == rd) (stands p l (target a aim) (target x off)) (eq-eqb rd rd refl) (stands_full (target a aim) (target x off) s)) (returns_full rd (x + 4) n))
 
       register_full : (rd : ℕ) → (v ≡ w) ⊎ (second_test p l a x rd (decoded v) ≡ true) → (rd ≢ 0 → Next (plain p l) a (x + 4)) → ((v == w) || second_test p l a x rd (decoded v)) && returns p l a rd (x + 4) ≡ true
       register_full rd (inl e) n = and_from _ _ (or_left (v == w) (second_test p l a x rd (decoded v)) (eq-eqb v w e)) (returns_full rd (x + 4) n)

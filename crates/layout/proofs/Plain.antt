@@ -1,12 +1,12 @@
 -- The code of a layout that stands alone, in the terms of its tests.
-use Rattle.std.proofs.Common.{◌≡◌, ◌≢◌, ℕ, zero, suc, ◌+◌, ◌-◌, ◌*◌, ◌/◌, ◌%◌, ◌==◌, ◌<◌, Bool, true, false, List, [], ◌∷◌, length, refl, sym, ◌∙◌, ap, subst, inl, inr, arith}
-use Rattle.std.specs.Prelude.{Option, Some, None, ◌⊎◌, slice_get, nat_le, ◌&&◌, is_some, IsSome, option_and_then, if◌then◌else◌}
+use Rattle.std.proofs.Common.{◌≡◌, ℕ, zero, suc, ◌-◌, ◌/◌, ◌%◌, ◌==◌, Bool, true, false, List, [], ◌∷◌, length, refl, sym, ◌∙◌, ap, inl, inr, arith}
+use Rattle.std.specs.Prelude.{Option, Some, None, slice_get, nat_le, ◌&&◌, is_some, IsSome, option_and_then, if◌then◌else◌}
 use Rattle.std.specs.Option.{option_map, option_or}
 use Rattle.std.proofs.lemmas.Option.{slice_get_within}
 use Rattle.image.specs.Texts.{word_at}
 use Rattle.image.specs.Picture.{Picture}
 use Rattle.layout.specs.declared.point.Point.{Point}
-use Rattle.layout.specs.declared.point.Point.TheVariants.{Start, Hop, Mid}
+use Rattle.layout.specs.declared.point.Point.TheVariants.{Start}
 use Rattle.layout.specs.Laid.{Laid, IsLaid, item_at, point_in}
 use Rattle.layout.specs.Points.{Code, in_range, site_of, second_of, start_of, here_of, here_in, here_home, here_word, here_point, live_at}
 use Rattle.layout.specs.Rows.{Near}

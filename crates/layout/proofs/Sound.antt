@@ -1,7 +1,7 @@
 -- A word that passes its test renders what it stands for.
-use Rattle.std.proofs.Common.{◌≡◌, ◌≢◌, ℕ, ◌+◌, ◌-◌, ◌==◌, ◌≤◌, Bool, true, false, not, List, refl, sym, ◌∙◌, ap, subst, inl, inr, arith}
-use Rattle.std.specs.Prelude.{Option, Some, None, ℤ, ◌⊎◌, ◌&&◌, ◌||◌, nat_le, length, IsSome, option_and_then, if◌then◌else◌}
-use Rattle.std.proofs.lemmas.Bool.{eqb-true, leb-true, and_parts, or_cases}
+use Rattle.std.proofs.Common.{◌≡◌, ◌≢◌, ℕ, ◌+◌, ◌==◌, Bool, true, false, refl, sym, ◌∙◌, ap, subst, inl, inr, arith}
+use Rattle.std.specs.Prelude.{Option, Some, None, ℤ, ◌&&◌, ◌||◌, length, option_and_then, if◌then◌else◌}
+use Rattle.std.proofs.lemmas.Bool.{eqb-true, and_parts, or_cases}
 use Rattle.rv_isa.specs.Decoded.{decoded}
 use Rattle.rv_isa.specs.declared.instr.Cond.{Cond}
 use Rattle.rv_isa.specs.declared.instr.Cond.TheVariants.{Eq, Ne, Lt, Ge, Ltu, Geu}
@@ -9,16 +9,15 @@ use Rattle.rv_isa.specs.declared.instr.ImmOp.TheVariants as imm
 use Rattle.rv_isa.specs.declared.instr.Instr.{Instr}
 use Rattle.rv_isa.specs.declared.instr.Instr.TheVariants as instr
 use Rattle.image.specs.Targets.{target, made_by}
-use Rattle.image.specs.Texts.{word_at}
-use Rattle.image.specs.Picture.{Picture, IsKept}
+use Rattle.image.specs.Picture.{Picture}
 use Rattle.layout.specs.declared.point.Point.{Point}
 use Rattle.layout.specs.declared.point.Point.TheVariants.{Start, Hop, Mid}
 use Rattle.layout.specs.Laid.{Laid, IsLaid, item_at, point_in}
-use Rattle.layout.specs.Points.{Code, StandsFor, at_start, at_hop, read, second_of, start_of}
+use Rattle.layout.specs.Points.{StandsFor, at_start, at_hop, read, second_of, start_of}
 use Rattle.layout.specs.Rows.{opposite, Near, Next, AimsAt, MovedRow, StartRow, HopRow}
 use Rattle.layout.specs.Rows as rows
 use Rattle.layout.specs.Alone.{InRegion}
-use Rattle.layout.specs.Tests.{same_cond, stands_as, starts_as, is_mid, point_alone, stands, starts, returns, kept_test, sum_test, moved_test, jump_test, starts_at, second_test, branch_test, row_test, start_by, start_over, start_test, hop_by, hop_test}
+use Rattle.layout.specs.Tests.{same_cond, stands_as, starts_as, is_mid, point_alone, stands, starts, returns, kept_test, sum_test, moved_test, jump_test, starts_at, second_test, branch_test, row_test}
 use Rattle.layout.proofs.TextRows.{read_is, read_same}
 use Rattle.layout.proofs.Plain.{plain, here_point_is, here_home_is, here_word_is, near_all}
 
@@ -107,7 +106,7 @@ module _ (p : Picture) (l : Laid) where
       register_sound rd rs off j t u e =
           let f = and_parts ((v == w) || second_test p l a x rd j) (returns p l a rd (x + 4)) e in
           elim (or_cases (v == w) (second_test p l a x rd j) f.0) [
-            inl s ↦ rows.jump_register w rd rs off text t (word ∙ ap Some (eqb-true v w s)) (goes_on rd (x + 4) f.1)
+            | inl s ↦ rows.jump_register w rd rs off text t (word ∙ ap Some (eqb-true v w s)) (goes_on rd (x + 4) f.1)
             | inr s ↦ by_jump j u s (goes_on rd (x + 4) f.1)
           ]
         where
@@ -169,19 +168,21 @@ module _ (p : Picture) (l : Laid) where
           let g = and_parts ((r == rd) && is_mid (point_in l (a + 4)) x) (sum_test p l a rd high (made_by x imm) (read (item_at l.base l.words) (a + 4))) f.0 in
           let h = and_parts (r == rd) (is_mid (point_in l (a + 4)) x) g.0 in
           let m = as_mid (point_in l (a + 4)) x h.1 in
-          let s = sum_sound rd high (made_by x imm) (read (item_at l.base l.words) (a + 4)) g.1 in
-          (high, record {
-            imm = imm;
-            low = s.0;
-            text = text_reads _ t;
-            is_written = n;
-            first = word_reads _ (u ∙ ap (λ n. Some (instr.Auipc n high)) (eqb-true r rd h.0));
-            mid = here_point_is p l laid within (a + 4) (Mid x) m;
-            home = here_home_is p l laid within (a + 4) (Mid x) m ∙ sym (here_home_is p l laid within a q at);
-            second = read_same (plain p l).word (item_at l.base l.words) (a + 4) (here_word_is p l laid within (a + 4) (Mid x) m) ∙ s.1;
-            value = s.2;
-            next = after m (stands_sound (a + 8) (x + 4) f.1);
-          })
+          let s = sum_sound rd high (made_by x imm) (read (item_at l.base l.words) (a + 4)) g.1 in (
+            high,
+            record {
+              imm = imm;
+              low = s.0;
+              text = text_reads _ t;
+              is_written = n;
+              first = word_reads _ (u ∙ ap (λ n. Some (instr.Auipc n high)) (eqb-true r rd h.0));
+              mid = here_point_is p l laid within (a + 4) (Mid x) m;
+              home = here_home_is p l laid within (a + 4) (Mid x) m ∙ sym (here_home_is p l laid within a q at);
+              second = read_same (plain p l).word (item_at l.base l.words) (a + 4) (here_word_is p l laid within (a + 4) (Mid x) m) ∙ s.1;
+              value = s.2;
+              next = after m (stands_sound (a + 8) (x + 4) f.1);
+            },
+          )
         where
           after : point_in l (a + 4) ≡ Some (Mid x) → StandsFor (plain p l) (a + 8) (x + 4) → Next (plain p l) (a + 4) (x + 4)
           after m s = let e : a + 8 ≡ a + 4 + 4 = omega arith in record { stands = subst (λ (n : ℕ). StandsFor (plain p l) n (x + 4)) e s; near = near_all p l laid within (a + 4) (Mid x) m (a + 4 + 4) }

@@ -1,6 +1,6 @@
 -- Each address outside the region renders itself.
-use Rattle.std.proofs.Common.{◌≡◌, ◌≢◌, ℕ, ◌+◌, Bool, true, false, refl, sym, ◌∙◌, ap, subst, inl, inr, arith}
-use Rattle.std.specs.Prelude.{Option, Some, None, ℤ, ◌⊎◌, option_and_then}
+use Rattle.std.proofs.Common.{◌≡◌, ℕ, ◌+◌, false, refl, ◌∙◌, ap, inl, arith}
+use Rattle.std.specs.Prelude.{Option, Some, None, ℤ, option_and_then}
 use Rattle.rv_isa.specs.Decoded.{decoded}
 use Rattle.rv_isa.specs.declared.instr.Instr.{Instr}
 use Rattle.rv_isa.specs.declared.instr.Instr.TheVariants as instr
@@ -9,7 +9,7 @@ use Rattle.image.specs.Texts.{word_at}
 use Rattle.image.specs.Picture.{Picture, IsKept}
 use Rattle.layout.specs.declared.point.Point.TheVariants.{Start}
 use Rattle.layout.specs.Points.{Code, StandsFor, at_start, in_range, read}
-use Rattle.layout.specs.Rows.{IsKept as IsKeptWord, Near, Next, AimsAt, StartRow, no_word, unread, kept, address_in_place, jump, jump_register, branch}
+use Rattle.layout.specs.Rows.{Next, AimsAt, StartRow, no_word, unread, kept, address_in_place, jump, jump_register, branch}
 use Rattle.layout.proofs.TextWords.{text_outside, aimed_outside}
 
 -- what a word reads as

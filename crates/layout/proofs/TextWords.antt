@@ -1,21 +1,18 @@
 -- What an image keeps of the words of its text.
-use Rattle.std.proofs.Common.{◌≡◌, ◌≢◌, ℕ, zero, suc, ◌+◌, ◌-◌, ◌*◌, ◌/◌, ◌%◌, ◌^◌, ◌==◌, ◌≤◌, ◌<◌, Bool, true, false, List, [], ◌∷◌, ◌++◌, length, get_or, refl, sym, ◌∙◌, ap, subst, inl, inr, arith}
-use Rattle.std.specs.Prelude.{Option, Some, None, ℤ, pos, negsuc, ◌+ℤ◌, find, slice_get, nat_le, nat_lt, ◌&&◌, ◌⊎◌, option_and_then, if◌then◌else◌}
-use Rattle.std.specs.List.{All, Contains, flat_map, filter_map, cons_option, position}
-use Rattle.std.specs.Option.{option_map}
-use Rattle.std.proofs.lemmas.Option.{slice_get_within, get_or_from_slice_get}
+use Rattle.std.proofs.Common.{◌≡◌, ℕ, zero, suc, ◌+◌, ◌-◌, ◌*◌, ◌/◌, ◌%◌, ◌^◌, ◌==◌, ◌≤◌, ◌<◌, Bool, true, false, List, [], ◌∷◌, refl, sym, ◌∙◌, ap, subst, inl, inr, arith}
+use Rattle.std.specs.Prelude.{Option, Some, None, ℤ, pos, negsuc, ◌+ℤ◌, find, slice_get, nat_le, nat_lt, ◌⊎◌, option_and_then, if◌then◌else◌}
+use Rattle.std.specs.List.{Contains, flat_map, filter_map, cons_option}
+use Rattle.std.proofs.lemmas.Option.{slice_get_within}
 use Rattle.std.proofs.lemmas.Bool.{eqb-true, leb-true, ltb-true, and_parts}
 use Rattle.std.proofs.lemmas.Bool.Decides.{nat_tests}
-use Rattle.std.proofs.lemmas.List.Elements.{All-contains, All-tail, Contains-append_left, Contains-append_right}
+use Rattle.std.proofs.lemmas.List.Elements.{All-contains, Contains-append_left, Contains-append_right}
 use Rattle.rv_isa.specs.Decoded.{decoded}
 use Rattle.rv_isa.specs.declared.instr.Instr.{Instr}
-use Rattle.rv_isa.specs.declared.instr.Instr.TheVariants.{Jal, Branch}
-use Rattle.oc_base.specs.declared.range.Range.{Range}
 use Rattle.image.specs.declared.ranges.TextRange.{TextRange}
 use Rattle.image.specs.Targets.{reduced, target}
 use Rattle.image.specs.Jumps.{direct_target, goes_to}
 use Rattle.image.specs.Texts.{text_end, covers, word_in, word_at, words_from, text_words, aim_of, targets}
-use Rattle.image.specs.Picture.{Picture, IsText, IsRegion, IsKept}
+use Rattle.image.specs.Picture.{Picture, IsText, IsKept}
 use Rattle.layout.specs.Points.{in_range}
 
 -- a word of text, in its range

@@ -4,7 +4,7 @@ use Rattle.image.specs.declared.ranges.Aim.{Aim}
 use Rattle.image.specs.Texts.{word_at}
 use Rattle.image.specs.Picture.{Picture}
 use Rattle.layout.specs.declared.point.Point.{Point}
-use Rattle.layout.specs.declared.point.Point.TheVariants.{Start, Hop, Mid}
+use Rattle.layout.specs.declared.point.Point.TheVariants.{Start}
 use Rattle.layout.specs.Laid.{Laid, point_in}
 use Rattle.layout.specs.Points.{Code, site_of, second_of, in_range, code_of}
 use Rattle.layout.specs.Rows.{Renders}

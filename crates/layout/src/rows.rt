@@ -152,12 +152,14 @@ impl Alone<'_> {
         ensures { result ≡ sum_test self.now.image.now self.now.layout.now at rd high value i.now }
     {
         match i {
-            Some(Instr::AluImm {
-                op: ImmOp::Addi,
-                rd: d,
-                rs1: s,
-                imm,
-            }) => {
+            Some(
+                Instr::AluImm {
+                    op: ImmOp::Addi,
+                    rd: d,
+                    rs1: s,
+                    imm,
+                },
+            ) => {
                 let sum = target(made_by(at, high.get() as u64), imm.get());
                 d.get() == rd.get() && s.get() == rd.get() && sum == value
             }
@@ -175,7 +177,13 @@ impl Alone<'_> {
             Some(Instr::Auipc { rd: r, imm: high }) => {
                 r.get() == rd.get()
                     && is_mid(self.layout.point_at(at + 4), x)
-                    && self.makes(at, rd, *high, made_by(x, imm.get() as u64), &self.read(at + 4))
+                    && self.makes(
+                        at,
+                        rd,
+                        *high,
+                        made_by(x, imm.get() as u64),
+                        &self.read(at + 4),
+                    )
                     && self.stands(at + 8, x + 4)
             }
             _ => false,
@@ -233,12 +241,14 @@ impl Alone<'_> {
         ensures { result ≡ branch_test self.now.image.now self.now.layout.now at x b.now.cond b.now.rs1 b.now.rs2 b.now.off i.now }
     {
         match i {
-            Some(Instr::Branch {
-                cond,
-                rs1,
-                rs2,
-                off: aim,
-            }) => {
+            Some(
+                Instr::Branch {
+                    cond,
+                    rs1,
+                    rs2,
+                    off: aim,
+                },
+            ) => {
                 let taken = target(x, b.off.get());
                 let to = target(at, aim.get());
                 rs1.get() == b.rs1.get()

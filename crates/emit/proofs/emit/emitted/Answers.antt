@@ -1,4 +1,3 @@
-use Rattle.std.proofs.Common.{◌∙◌}
 use Rattle.plans.proofs.Planned.{planned}
 use Rattle.emit.proofs.NearBranches.{are_near}
 use Rattle.emit.proofs.emit.emitted.Goals as goal

@@ -1,4 +1,4 @@
-use Rattle.std.proofs.Common.{◌∙◌, sym, subst}
+use Rattle.std.proofs.Common.{◌∙◌, subst}
 use Rattle.image.specs.Picture.{Picture}
 use Rattle.emit.specs.Emitted.{IsFault}
 use Rattle.emit.specs.Entries.{calls_of}

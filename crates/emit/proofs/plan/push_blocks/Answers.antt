@@ -1,4 +1,4 @@
-use Rattle.std.proofs.Common.{◌<◌, length, subst, sym, All, List}
+use Rattle.std.proofs.Common.{subst, sym, All, List}
 use Rattle.blocks.specs.declared.run.Run.{Run}
 use Rattle.emit.proofs.Parts.{IsLow, words_low, order_below}
 use Rattle.emit.proofs.plan.push_blocks.Goals as goal

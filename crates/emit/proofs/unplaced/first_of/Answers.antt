@@ -1,4 +1,4 @@
-use Rattle.std.proofs.Common.{get_or, refl, arith, ◌<◌, length, ◌≡◌, rules}
+use Rattle.std.proofs.Common.{get_or, refl, ◌<◌, length, rules}
 use Rattle.emit.proofs.Ordered.{first_is}
 use Rattle.emit.proofs.unplaced.first_of.Goals as goal
 

@@ -1,6 +1,5 @@
-use Rattle.std.proofs.Common.{rules, ◌≡◌, [], ◌∷◌, ◌++◌, arith, refl}
+use Rattle.std.proofs.Common.{rules, ◌≡◌, [], ◌∷◌, ◌++◌, refl}
 use Rattle.emit.proofs.Steps.{begun_more, reached_more, first_out}
-use Rattle.emit.proofs.Reach.{two_sums}
 use Rattle.emit.proofs.place.Placing.words.Goals as goal
 
 pub loop-i-preserved : goal.loop-i-preserved
