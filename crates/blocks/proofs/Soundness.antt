@@ -1,6 +1,6 @@
 -- The blocks of a function without a fault are sound.
 use Rattle.std.proofs.Common.{◌≡◌, ℕ, zero, suc, ◌+◌, ◌-◌, ◌*◌, ◌/◌, ◌%◌, ◌<◌, ◌≤◌, ◌==◌, Bool, true, false, not, List, [], ◌∷◌, ◌++◌, map, length, get_or, append_assoc, refl, sym, ◌∙◌, subst, ap, inl, inr, arith}
-use Rattle.std.specs.Prelude.{Option, Some, None, ℤ, ◌⊎◌, ◌≢◌, ◌&&◌, ◌||◌, nat_le, nat_lt, if◌then◌else◌, option_and_then, All, AllPairs, slice_get, position}
+use Rattle.std.specs.Prelude.{Option, Some, None, ◌⊎◌, ◌&&◌, nat_le, nat_lt, if◌then◌else◌, option_and_then, All, AllPairs, slice_get, position}
 use Rattle.std.specs.List.{list_any, filter_map}
 use Rattle.std.specs.Option.{option_map}
 use Rattle.std.proofs.lemmas.Bool.{eq-eqb, eqb-true, and_from, and_parts, or_left, or_right, cases_eq, cases_lt, le-leb, lt-ltb, leb-true, ltb-true}
@@ -25,8 +25,8 @@ use Rattle.blocks.specs.declared.fault.Unreadable.{Unreadable}
 use Rattle.blocks.specs.declared.fault.Unreadable.TheVariants as why
 use Rattle.blocks.specs.Words.{word_of, word_read, addresses, places_of, words_of, falls_of}
 use Rattle.blocks.specs.Faults.{overlaps, aim_fault, read_fault, word_fault, fault_in, fault_of}
-use Rattle.blocks.specs.Blocks.{aims_at, marks, is_start, first_at, run_to, is_empty, cut, runs_in, runs_in_text, runs_of}
-use Rattle.blocks.specs.Sound.{Begins, BeginsInside, Aims, IsWord, IsRun, AreRuns, IsSound, IsAlone}
+use Rattle.blocks.specs.Blocks.{aims_at, marks, is_start, first_at, run_to, cut, runs_in, runs_of}
+use Rattle.blocks.specs.Sound.{Begins, Aims, IsWord, IsRun, AreRuns, IsSound, IsAlone}
 
 -- the word at a reads, and nothing is wrong with it
 record IsClean (texts : List TextRange) (f : Func) (a : ℕ) (w : Word) : Type 0 where
@@ -175,9 +175,9 @@ cut_only s texts f vs a (w ∷ []) b y from c m o (inl p) = subst (λ (z : ℕ).
 cut_only s texts f vs a (w ∷ []) b y from c m o (inr p) = absurd p
 cut_only s texts f vs a (w ∷ x ∷ ws) b y from c m o h =
     by_test (s (w.at + 4)) refl
-      (λ e. cut_only s texts f [] (a + 4) (x ∷ ws) b y (w.at + 4) c.1 e (λ u p. p ∙ ap (λ (z : ℕ). z + 4) (sym c.0.at)))
-      (cut_only s texts f (vs ++ w ∷ []) (a + 4) (x ∷ ws) b y from c.1 m (λ u p. opened u vs (o w c.0.at)))
-      h
+    (λ e. cut_only s texts f [] (a + 4) (x ∷ ws) b y (w.at + 4) c.1 e (λ u p. p ∙ ap (λ (z : ℕ). z + 4) (sym c.0.at)))
+    (cut_only s texts f (vs ++ w ∷ []) (a + 4) (x ∷ ws) b y from c.1 m (λ u p. opened u vs (o w c.0.at)))
+    h
   where
     opened : (u : Word) (us : List Word) → first_at us w ≡ from → first_at (us ++ w ∷ []) u ≡ from
     opened u [] e = e
@@ -289,11 +289,11 @@ module _ (texts : List TextRange) (f : Func) (all : List Word) (whole : f.from %
       let k = word_is pre (x ∷ ws) w a e c.0 p l h in
       let next : all ≡ (pre ++ w ∷ []) ++ x ∷ ws = e ∙ sym (append_assoc pre (w ∷ []) (x ∷ ws)) in
       by_test (is_start f all (w.at + 4)) refl k
-        (cut_runs (pre ++ w ∷ []) (a + 4) [] (a + 4) x ws next c.1 refl (omega (arith, p)) (omega (arith, l)))
-        (λ s. cut_runs (pre ++ w ∷ []) from (vs ++ w ∷ []) (a + 4) x ws next c.1
-          (open_push from vs a w o k (falls_on pre (x ∷ ws) w e s)
-            (λ b. both (begins_only (a + 4) b) (subst (λ (n : ℕ). is_start f all (n + 4) ≡ false) c.0.at s)))
-          (omega (arith, p)) (omega (arith, l)))
+      (cut_runs (pre ++ w ∷ []) (a + 4) [] (a + 4) x ws next c.1 refl (omega (arith, p)) (omega (arith, l)))
+      (λ s. cut_runs (pre ++ w ∷ []) from (vs ++ w ∷ []) (a + 4) x ws next c.1
+      (open_push from vs a w o k (falls_on pre (x ∷ ws) w e s)
+      (λ b. both (begins_only (a + 4) b) (subst (λ (n : ℕ). is_start f all (n + 4) ≡ false) c.0.at s)))
+      (omega (arith, p)) (omega (arith, l)))
     where
       by_test : (b : Bool) → is_start f all (w.at + 4) ≡ b → IsWord texts f runs a w
           → AreRuns texts f runs (a + 4) (cut (is_start f all) [] (x ∷ ws)) f.to
@@ -328,10 +328,10 @@ runs_ascend : (texts : List TextRange) (f : Func) (all : List Run) (a : ℕ) (rs
 runs_ascend texts f all a [] b h = λ i j d l k. absurd (omega (arith, k))
 runs_ascend texts f all a (r ∷ rs) b h =
     AllPairs-cons (λ (r s : Run). r.from < s.from) r rs
-      (All-weaker (λ (s : Run). r.to ≤ s.from) (λ (s : Run). r.from < s.from)
-        (λ s l. omega (arith, l, run_filled texts f all r.from r.words r.to r.falls h.1)) rs
-        (runs_from texts f all r.to r.to rs b h.3 (omega arith)))
-      (runs_ascend texts f all r.to rs b h.3)
+    (All-weaker (λ (s : Run). r.to ≤ s.from) (λ (s : Run). r.from < s.from)
+    (λ s l. omega (arith, l, run_filled texts f all r.from r.words r.to r.falls h.1)) rs
+    (runs_from texts f all r.to r.to rs b h.3 (omega arith)))
+    (runs_ascend texts f all r.to rs b h.3)
 
 -- the words of a function of an image without a fault
 words_clean : (texts : List TextRange) (funcs : List Func) (f : Func) → IsFunc texts f → fault_in texts funcs f ≡ None → AreClean texts f f.from (words_of texts f) f.to
@@ -370,7 +370,7 @@ apart_from f g e n =
       | inl l ↦ elim (cases_lt f.from g.to) [
         | inr h ↦ inl h
         | inl h ↦ absurd (both (and_from (not (g.from == f.from)) (nat_lt g.from f.to && nat_lt f.from g.to) (differ (g.from == f.from) (λ q. n (eqb-true g.from f.from q)))
-          (and_from (nat_lt g.from f.to) (nat_lt f.from g.to) (lt-ltb g.from f.to l) (lt-ltb f.from g.to h))) e)
+            (and_from (nat_lt g.from f.to) (nat_lt f.from g.to) (lt-ltb g.from f.to l) (lt-ltb f.from g.to h))) e)
       ]
     ]
   where

@@ -1,18 +1,18 @@
 -- Parts without a fault are a plan.
 use Rattle.std.proofs.Common.{◌≡◌, ℕ, zero, suc, ◌+◌, ◌<◌, ◌==◌, Bool, true, false, not, List, [], ◌∷◌, ◌++◌, map, length, get_or, take, drop, take-append-drop, inl, inr, refl, sym, ◌∙◌, subst, ap, arith}
-use Rattle.std.specs.Prelude.{Option, Some, None, ◌&&◌, ◌||◌, ◌≢◌, nat_lt, All, AllPairs}
+use Rattle.std.specs.Prelude.{None, ◌&&◌, ◌||◌, ◌≢◌, nat_lt, All, AllPairs}
 use Rattle.std.specs.List.{list_any, list_all, range_with_len}
-use Rattle.std.proofs.lemmas.Bool.{cases_eq, eqb-true, eq-eqb, ltb-true, and_parts, or_left, or_right}
+use Rattle.std.proofs.lemmas.Bool.{cases_eq, and_from, lt-ltb, eqb-true, eq-eqb, ltb-true, and_parts, or_left, or_right}
 use Rattle.std.proofs.lemmas.List.{get_or-map, length-map, take_more}
-use Rattle.std.proofs.lemmas.List.Elements.{All-nil, All-cons}
+use Rattle.std.proofs.lemmas.List.Elements.{All-nil, All-cons, All-map}
 use Rattle.std.proofs.lemmas.List.Kept.{AllPairs-cons}
-use Rattle.std.proofs.lemmas.List.Sums.{AllPass-from_list_all}
-use Rattle.std.proofs.lemmas.List.Folds.{list_any-append}
+use Rattle.std.proofs.lemmas.List.Sums.{AllPass-from_list_all, list_all-from_AllPass}
+use Rattle.std.proofs.lemmas.List.Folds.{list_any-append, list_any_none}
 use Rattle.finite.specs.First.{first_of, when}
+use Rattle.finite.proofs.Searching.{tail_pairs}
 use Rattle.finite.proofs.Finding.{any_none, not_passed}
 use Rattle.image.specs.Picture.{Picture}
 use Rattle.plans.specs.declared.plan.Moved.{Moved}
-use Rattle.plans.specs.declared.plan.PlanFault.{PlanFault}
 use Rattle.plans.specs.declared.plan.PlanFault.TheVariants as why
 use Rattle.plans.specs.Orders.{is_among, repeats, is_order, IsOrder}
 use Rattle.plans.specs.Plans.{moved_func, IsPlan}
@@ -79,7 +79,7 @@ apart (x ∷ xs) e =
 funcs_apart : (parts : List Moved) → AllPairs (λ x y. x ≢ y) (map moved_func parts) → AllPairs (λ m n. m.func ≢ n.func) parts
 funcs_apart parts a i j d l k =
     subst (λ (x : ℕ). x ≢ (get_or parts j d).func) (get_or-map moved_func parts i d (moved_func d) (omega (arith, l, k)))
-      (subst (λ (y : ℕ). get_or (map moved_func parts) i (moved_func d) ≢ y) (get_or-map moved_func parts j d (moved_func d) k) (a i j (moved_func d) l (rw (length-map parts moved_func) k)))
+    (subst (λ (y : ℕ). get_or (map moved_func parts) i (moved_func d) ≢ y) (get_or-map moved_func parts j d (moved_func d) k) (a i j (moved_func d) l (rw (length-map parts moved_func) k)))
 
 -- parts without a fault: what they are
 pub planned : (p : Picture) (parts : List Moved) → plan_fault p parts ≡ None → IsPlanOf p parts
@@ -170,3 +170,33 @@ put_twice xs i false l e p = absurd cc
 pub put_once : (xs : List ℕ) (i : ℕ) (b : Bool) → i < length xs → true ≡ not b → b ≡ is_among (take i xs) (get_or xs i 0) → repeats (take i xs) ≡ false → repeats (take (i + 1) xs) ≡ false
 put_once xs i true l e p q = absurd cc
 put_once xs i false l e p q = repeats_next xs i 0 l ∙ rw (q, sym p) refl
+
+each_all : (p : ℕ → Bool) (a n : ℕ) → ((j : ℕ) → j < n → p (a + j) ≡ true) → list_all p (range_with_len a n) ≡ true
+each_all p a zero h = refl
+each_all p a (suc n) h =
+    and_from (p a) (list_all p (range_with_len (a + 1) n)) (subst (λ (i : ℕ). p i ≡ true) (omega arith) (h 0 (omega arith)))
+    (each_all p (a + 1) n (λ j l. subst (λ (i : ℕ). p i ≡ true) (omega arith) (h (suc j) (omega (arith, l)))))
+
+order_passes : (k : ℕ) (order : List ℕ) → IsOrder k order → is_order k order ≡ true
+unfolding is_order
+order_passes k order o =
+    and_from _ _ (eq-eqb (length order) k o.size)
+    (and_from _ _ (list_all-from_AllPass (λ x. nat_lt x k) order (λ i d l. lt-ltb (get_or order i d) k (o.below i d l)))
+    (and_from _ _ (rw (o.once) refl) (each_all (is_among order) 0 k (λ j l. subst (λ (i : ℕ). is_among order i ≡ true) (omega arith) (o.each j l)))))
+
+no_repeat : (parts : List Moved) → AllPairs (λ m n. m.func ≢ n.func) parts → repeats (map moved_func parts) ≡ false
+no_repeat [] a = refl
+no_repeat (m ∷ ms) a =
+    rw (list_any_none (λ o. o == m.func) (map moved_func ms)
+    (All-map (λ o. (o == m.func) ≡ false) moved_func ms
+    (λ i d l. not_passed ((get_or ms i d).func == m.func) (λ e. a 0 (suc i) d (omega arith) (omega (arith, l)) (sym (eqb-true (get_or ms i d).func m.func e))))))
+    (no_repeat ms (tail_pairs (λ m n. m.func ≢ n.func) m ms a))
+
+-- such parts have no fault
+pub accepted : (p : Picture) (parts : List Moved) → IsPlanOf p parts → plan_fault p parts ≡ None
+unfolding plan_fault
+accepted p parts h =
+    let a : list_any (is_missing p) parts ≡ false = list_any_none (is_missing p) parts (λ i d l. rw (lt-ltb (get_or parts i d).func (length p.funcs) (h.there i d l)) refl) in
+    let b : list_any (is_misordered p) parts ≡ false =
+    list_any_none (is_misordered p) parts (λ i d l. rw (order_passes (block_count p (get_or parts i d)) (get_or parts i d).order (h.orders i d l)) refl) in
+    rw (a, b, no_repeat parts h.once) refl

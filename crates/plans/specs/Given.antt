@@ -1,5 +1,5 @@
 -- Plans of an image. This project's own.
-use Rattle.std.specs.Prelude.{◌≡◌, ◌≢◌, ℕ, ◌<◌, max, Bool, false, not, ◌||◌, nat_lt, List, [], ◌∷◌, length, map, All, AllPairs, is_some, Option, if◌then◌else◌}
+use Rattle.std.specs.Prelude.{◌≢◌, ℕ, ◌<◌, max, Bool, not, ◌||◌, nat_lt, List, [], ◌∷◌, length, map, All, AllPairs, is_some, Option, if◌then◌else◌}
 use Rattle.std.specs.List.{list_any}
 use Rattle.finite.specs.First.{first_of, when}
 use Rattle.image.specs.Picture.{Picture}

@@ -1,5 +1,5 @@
 -- What each plan keeps.
-use Rattle.std.specs.Prelude.{◌≡◌, ℕ, false, List, length, map, All, AllPairs, ◌≢◌}
+use Rattle.std.specs.Prelude.{◌≡◌, ℕ, false, List, length, map, All}
 use Rattle.plans.specs.declared.plan.Moved.{Moved}
 use Rattle.plans.specs.Orders.{repeats, IsOrder}
 

@@ -1,4 +1,4 @@
-use Rattle.std.proofs.Common.{◌≡◌, ℕ, List, ◌+◌, ◌-◌, ◌*◌, ◌/◌, ◌<◌, ◌^◌, ◌++◌, [], ◌∷◌, map, drop, arith, append-nil, sym, refl, ◌∙◌, subst, ap}
+use Rattle.std.proofs.Common.{◌≡◌, ℕ, List, ◌+◌, ◌-◌, ◌/◌, ◌<◌, ◌^◌, ◌++◌, [], ◌∷◌, map, drop, arith, append-nil, sym, ◌∙◌, subst, ap}
 use Rattle.std.specs.Prelude.{All}
 use Rattle.std.specs.List.{filter_map}
 use Rattle.finite.specs.First.{first_of}
@@ -23,7 +23,7 @@ loop-i-preserved c =
           (All-push (λ (w : Word). w.at + 4 < 2 ^ 64) c.loop-i.words.items c.in-Ok.w c.loop-i.invariant.low small);
       words = ap (λ (ws : List Word). ws ++ filter_map (word_read c.args.image.now.texts) (drop (c.loop-i.i + 1) (places_of c.args.f.now))) pushed
           ∙ read_step (word_read c.args.image.now.texts) c.loop-i.words.items (filter_map (word_read c.args.image.now.texts) (places_of c.args.f.now)) c.args.f.now.from n c.loop-i.i c.in-Ok.w
-              c.loop-i-test.true c.in-Ok.ensures.is c.loop-i.invariant.words;
+          c.loop-i-test.true c.in-Ok.ensures.is c.loop-i.invariant.words;
       faults = fault_step (word_fault c.args.image.now.texts c.args.f.now) c.args.f.now.from n c.loop-i.i c.loop-i-test.true c.in-Ok.ensures.none ∙ c.loop-i.invariant.faults;
     }
 

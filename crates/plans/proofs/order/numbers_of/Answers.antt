@@ -1,4 +1,4 @@
-use Rattle.std.proofs.Common.{◌≡◌, ℕ, get_or, sym, ◌∙◌, ap}
+use Rattle.std.proofs.Common.{ℕ, get_or, sym, ◌∙◌, ap}
 use Rattle.std.specs.Prelude.{◌||◌, Bool, ◌==◌}
 use Rattle.plans.proofs.Planned.{put_twice, put_once, among_next}
 use Rattle.plans.proofs.order.numbers_of.Goals as goal

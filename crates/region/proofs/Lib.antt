@@ -1,0 +1,4 @@
+pub mod FreeLaws
+pub mod Taking
+pub mod Giving
+pub mod Whole
