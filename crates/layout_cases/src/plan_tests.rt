@@ -22,7 +22,7 @@ fn part_of(alloc: Global, text: &str) -> Result<Moved, AllocError> {
 }
 
 /// Parts such as `1:2 1 0; 0:0`.
-fn parts_of(alloc: Global, text: &str) -> Result<Vec<Moved>, AllocError> {
+pub fn parts_of(alloc: Global, text: &str) -> Result<Vec<Moved>, AllocError> {
     let mut parts = Vec::new(alloc);
     for part in text.split("; ") {
         if !part.is_empty() {
