@@ -77,6 +77,20 @@ fit_free low high (r ∷ rs) n b h e = by_test (holds n r) (λ q. leb-true n (si
     by_test true g e k = λ a q t. or_left (is_in a r) (is_free rs a) (in_is a r (omega (arith, same e, q)) (omega (arith, same e, t, g refl, h.1)))
     by_test false g e k = later (k e)
 
+-- they lie between the ends
+pub fit_inside : (low high : ℕ) (rs : List Range) (n b : ℕ) → Rises low high rs → fit rs n ≡ Some b → (low ≤ b) × (b + n ≤ high)
+unfolding fit
+fit_inside low high [] n b h e = absurd cc
+fit_inside low high (r ∷ rs) n b h e = by_test (holds n r) (λ q. leb-true n (size r) q) e (λ g. fit_inside (r.to + 1) high rs n b h.3 g)
+  where
+    same : Some r.from ≡ Some b → r.from ≡ b
+    same q = cc
+
+    by_test : (t : Bool) → (t ≡ true → n ≤ size r) → option_map range_from (if t then Some r else find (holds n) rs) ≡ Some b
+        → (option_map range_from (find (holds n) rs) ≡ Some b → (r.to + 1 ≤ b) × (b + n ≤ high)) → (low ≤ b) × (b + n ≤ high)
+    by_test true g e k = (omega (arith, same e, h.0), omega (arith, same e, g refl, h.1, h.2))
+    by_test false g e k = let q = k e in (omega (arith, q.0, h.0, h.1), q.1)
+
 -- and no others that are free begin before them
 pub fit_least : (low high : ℕ) (rs : List Range) (n x b : ℕ) → Rises low high rs → 0 < n → AreFree rs x n → fit rs n ≡ Some b → b ≤ x
 unfolding fit

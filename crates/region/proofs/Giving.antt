@@ -10,10 +10,7 @@ use Rattle.region.proofs.FreeLaws.{in_true, in_is}
 
 -- no byte of r is free
 abbrev IsUsed : Range → List Range → Type 0
-IsUsed r rs = (a : ℕ) → r.from ≤ a → a < r.to → is_free rs a ≡ false
-
-none_in : {b : Bool} → b ≡ true → b ≡ false → ⊥
-none_in x y = absurd cc
+IsUsed r rs = (a : ℕ) → r.from ≤ a → a < r.to → is_free rs a ≡ true → ⊥
 
 -- a range whose bytes are used lies before a free one or behind it
 apart : (r s : Range) (rs : List Range) → IsUsed r (s ∷ rs) → r.from < r.to → s.from < s.to → (s.to ≤ r.from) ⊎ (r.to ≤ s.from)
@@ -23,14 +20,14 @@ apart r s rs u l h =
       | inl p ↦ elim (cases_lt s.from r.to) [
         | inr q ↦ inr q
         | inl q ↦ absurd (elim (cases_lt s.from r.from) [
-          | inl t ↦ none_in (or_left (is_in r.from s) (is_free rs r.from) (in_is r.from s (omega (arith, t)) p)) (u r.from (omega arith) l)
-          | inr t ↦ none_in (or_left (is_in s.from s) (is_free rs s.from) (in_is s.from s (omega arith) h)) (u s.from t q)
+          | inl t ↦ u r.from (omega arith) l (or_left (is_in r.from s) (is_free rs r.from) (in_is r.from s (omega (arith, t)) p))
+          | inr t ↦ u s.from t q (or_left (is_in s.from s) (is_free rs s.from) (in_is s.from s (omega arith) h))
         ])
       ]
     ]
 
 used_rest : (r s : Range) (rs : List Range) → IsUsed r (s ∷ rs) → IsUsed r rs
-used_rest r s rs u = λ a p q. not_passed (is_free rs a) (λ e. none_in (or_right (is_in a s) (is_free rs a) e) (u a p q))
+used_rest r s rs u = λ a p q e. u a p q (or_right (is_in a s) (is_free rs a) e)
 
 -- ranges behind the begin of r begin at its end or behind it
 behind : (r : Range) (low high : ℕ) (rs : List Range) → Rises low high rs → r.from < low → r.from < r.to → IsUsed r rs → Rises r.to high rs

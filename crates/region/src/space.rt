@@ -63,6 +63,8 @@ impl Region {
     /// The least address from which `n` bytes are free.
     pub fn fit(&self, n: u64) -> Option<u64>
         ensures is { result ≡ fit self.now.free n }
+        ensures low { IfSome result (λ at. self.now.all.from ≤ at) }
+        ensures high { IfSome result (λ at. at + n ≤ self.now.all.to) }
         ensures free { IfSome result (λ at. AreFree self.now.free at n) }
         ensures least { 0 < n → IfSome result (λ at. (x : ℕ) → AreFree self.now.free x n → at ≤ x) }
         ensures none { 0 < n → IsNone result ↔ ((x : ℕ) → AreFree self.now.free x n → ⊥) }
@@ -113,7 +115,7 @@ impl Region {
         requires ordered { part.from ≤ part.to }
         requires low { self.old.all.from ≤ part.from }
         requires high { part.to ≤ self.old.all.to }
-        requires used { (a : ℕ) → part.from ≤ a → a < part.to → is_free self.old.free a ≡ false }
+        requires used { (a : ℕ) → part.from ≤ a → a < part.to → is_free self.old.free a ≡ true → ⊥ }
         ensures free { self.new.free ≡ given part self.old.free }
         ensures addresses { (a : ℕ) → (is_free self.new.free a ≡ true) ↔ ((is_free self.old.free a ≡ true) ⊎ ((part.from ≤ a) × (a < part.to))) }
         ensures spare { self.new.spare + 1 ≡ self.old.spare }

@@ -1,10 +1,10 @@
-use Rattle.std.proofs.Common.{◌≡◌, ◌≤◌, List, sym, subst, ap, ◌∙◌}
+use Rattle.std.proofs.Common.{IfSome, ◌≡◌, ◌+◌, ◌≤◌, List, sym, subst, ap, ◌∙◌}
 use Rattle.std.specs.Prelude.{All}
 use Rattle.oc_base.specs.declared.range.Range.{Range}
 use Rattle.region.specs.Free.{Rises, fit}
 use Rattle.region.specs.Space.{Space}
 use Rattle.region.proofs.FreeLaws.{ordered, fit_tells}
-use Rattle.region.proofs.Whole.{fit_is_free, fit_is_least}
+use Rattle.region.proofs.Whole.{fit_is_free, fit_is_least, fit_is_low, fit_is_high}
 use Rattle.region.proofs.space.Region.fit.Goals as goal
 
 pub fit-requires : goal.fit-requires
@@ -30,3 +30,17 @@ returns-clause-none c =
     λ p. fit_tells c.self.inside.all.from c.self.inside.all.to c.args.self.now.free c.args.n c.fit.result
     (subst (Rises c.self.inside.all.from c.self.inside.all.to) same c.self.invariant.order)
     (c.fit.ensures ∙ ap (λ (rs : List Range). fit rs c.args.n) (c.deref.ensures.value ∙ same)) p
+
+pub returns-clause-low : goal.returns-clause-low
+returns-clause-low c =
+    let all : c.self.inside.all ≡ c.args.self.now.all = ap (λ (s : Space). s.all) c.self.view_is in
+    subst (λ (r : Range). IfSome c.fit.result (λ at. r.from ≤ at)) all
+      (fit_is_low c.self.inside.all.from c.self.inside.all.to c.self.inside.free.items c.args.n c.fit.result c.self.invariant.order
+      (c.fit.ensures ∙ ap (λ (rs : List Range). fit rs c.args.n) c.deref.ensures.value))
+
+pub returns-clause-high : goal.returns-clause-high
+returns-clause-high c =
+    let all : c.self.inside.all ≡ c.args.self.now.all = ap (λ (s : Space). s.all) c.self.view_is in
+    subst (λ (r : Range). IfSome c.fit.result (λ at. at + c.args.n ≤ r.to)) all
+      (fit_is_high c.self.inside.all.from c.self.inside.all.to c.self.inside.free.items c.args.n c.fit.result c.self.invariant.order
+      (c.fit.ensures ∙ ap (λ (rs : List Range). fit rs c.args.n) c.deref.ensures.value))

@@ -27,7 +27,7 @@ invariant_of-self c =
       order = subst (Rises c.self.inside.all.from c.self.inside.all.to) (sym put)
           (given_rises c.args.part c.self.inside.all.from c.self.inside.all.to c.self.inside.free.items (subst (λ (r : Range). r.from ≤ c.args.part.from) all c.requires.low) some
           (subst (λ (r : Range). c.args.part.to ≤ r.to) all c.requires.high) c.self.invariant.order
-          (subst (λ (rs : List Range). (a : ℕ) → c.args.part.from ≤ a → a < c.args.part.to → is_free rs a ≡ false) same c.requires.used));
+          (subst (λ (rs : List Range). (a : ℕ) → c.args.part.from ≤ a → a < c.args.part.to → is_free rs a ≡ true → ⊥) same c.requires.used));
       room = omega (arith, c.put_in.ensures.len, c.put_in.ensures.capacity, c.self.invariant.room, c.requires.spare, spare);
     }
 

@@ -1,0 +1,17 @@
+pub mod Assembled
+pub mod Distinct
+pub mod Emission
+pub mod EntryRows
+pub mod Halves
+pub mod Laid
+pub mod Leading
+pub mod Listed
+pub mod NearBranches
+pub mod Ordered
+pub mod Parts
+pub mod Places
+pub mod PlanRows
+pub mod Reach
+pub mod RunRows
+pub mod Steps
+pub mod Thinner

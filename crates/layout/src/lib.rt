@@ -1,0 +1,9 @@
+//! Layouts of moved code: what each of their words stands for, and whether their words render the original ones.
+#![tactic(auto)]
+
+pub mod calls;
+pub mod layout;
+pub mod point;
+pub mod renders;
+pub mod rows;
+pub mod targets;
