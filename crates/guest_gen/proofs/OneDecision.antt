@@ -6,7 +6,7 @@ use Rattle.rv_asm.specs.declared.program.Program.{Program}
 use Rattle.rv_asm.proofs.OneProgram.{one_program, same_program, words_once}
 use Rattle.guest_gen.specs.declared.decision.NewFile.{NewFile}
 use Rattle.guest_gen.specs.declared.decision.Refusal.{Refusal}
-use Rattle.guest_gen.specs.declared.decision.Refusal.TheVariants.{Usage, ReadFault, TooLong, Fault, NoMemory}
+use Rattle.guest_gen.specs.declared.decision.Refusal.TheVariants.{Fault}
 use Rattle.guest_gen.specs.declared.words.Form.{Form}
 use Rattle.guest_gen.specs.declared.words.Form.TheVariants.{Assemble, Generate}
 use Rattle.guest_gen.specs.declared.TheConstants.{TEXT_LIMIT}

@@ -1,5 +1,5 @@
 -- Why a call ended as it did, and what it has written by then.
-use Rattle.std.specs.Prelude.{◌≡◌, ◌≢◌, ◌⊎◌, ℕ, List, [], ◌∷◌, Option, Some, None, Result, Ok, Err}
+use Rattle.std.specs.Prelude.{◌≡◌, ◌≢◌, ◌⊎◌, ℕ, List, Option, Some, None, Result, Ok, Err}
 use Rattle.std.specs.Option.{ForSome}
 use Rattle.oc_base.specs.Outside.{Disk, gained, GainedPart, HasNow, SameElsewhere, TakeFailed}
 use Rattle.guest_gen.specs.declared.answer.MadeWhat.{MadeWhat}

@@ -11,7 +11,7 @@ use Rattle.guest_gen.specs.Words.{form_of, inputs_of, output_of}
 use Rattle.guest_gen.specs.declared.TheConstants.{TEXT_LIMIT}
 use Rattle.guest_gen.specs.declared.decision.NewFile.{NewFile}
 use Rattle.guest_gen.specs.declared.decision.Refusal.{Refusal}
-use Rattle.guest_gen.specs.declared.decision.Refusal.TheVariants.{Usage, ReadFault, TooLong, Fault}
+use Rattle.guest_gen.specs.declared.decision.Refusal.TheVariants.{ReadFault, TooLong, Fault}
 use Rattle.guest_gen.specs.declared.words.Form.{Form}
 use Rattle.guest_gen.specs.declared.words.Form.TheVariants.{Assemble, Generate}
 

@@ -1,5 +1,5 @@
 -- The program of the guest, part by part.
-use Rattle.std.specs.Prelude.{◌≡◌, ℕ, ◌+◌, ◌*◌, pos, neg_ℤ, codes, List, [], ◌∷◌, ◌++◌, length, drop, map, replicate}
+use Rattle.std.specs.Prelude.{◌≡◌, ℕ, ◌+◌, ◌*◌, pos, codes, List, [], ◌∷◌, ◌++◌, length, drop, replicate}
 use Rattle.std.specs.List.{flat_map}
 use Rattle.std.specs.Int.{to_le_bytes, w64}
 use Rattle.rv_asm.specs.Emission.{AreWords}

@@ -1,6 +1,6 @@
 -- The guest that is generated: four threads that count, each by calls through a table of eight functions in turn.
 -- A distance counts bytes from the branch or jump itself, 4 for an instruction.
-use Rattle.std.specs.Prelude.{ℕ, ◌+◌, ◌*◌, ℤ, pos, neg_ℤ, ◌+ℤ◌, List, [], ◌∷◌, ◌++◌}
+use Rattle.std.specs.Prelude.{ℕ, ◌*◌, ℤ, pos, neg_ℤ, ◌+ℤ◌, List, [], ◌∷◌, ◌++◌}
 use Rattle.rv_isa.specs.declared.instr.AluOp.TheVariants.{Add, Sub, Mul, Divu, Remu}
 use Rattle.rv_isa.specs.declared.instr.Cond.TheVariants.{Eq, Ne}
 use Rattle.rv_isa.specs.declared.instr.Width.TheVariants.{B, W, D}
