@@ -2,7 +2,8 @@
 //! one may follow, or its fault. Addresses are hexadecimal. What is wanted was told by an independent implementation.
 
 use crate::guests::{
-    COUNTDOWN, FAR_BRANCH, FAULTS, JUMPS, LOOPS, RECURSION, ZERO_WORD, image_of, number,
+    COUNTDOWN, FAR_BRANCH, FAULTS, JUMPS, LOOPS, NEIGHBOURS, RECURSION, ZERO_WORD, image_of,
+    image_with_function, number,
 };
 use blocks::fault::Unreadable;
 use blocks::recover::{recover, runs};
@@ -56,9 +57,17 @@ fn first_wrong<'a>(
     cases: &'a str,
 ) -> Result<Option<(&'a str, String)>, Fail> {
     let image = image_of(alloc, text)?;
+    wrong_in(alloc, &image, cases)
+}
+
+fn wrong_in<'a>(
+    alloc: Global,
+    image: &Image,
+    cases: &'a str,
+) -> Result<Option<(&'a str, String)>, Fail> {
     for case in cases.lines() {
         let (f, wanted) = case.split_once(" =").unwrap_or(("", ""));
-        let got = blocks_text(alloc, &image, number(f))?;
+        let got = blocks_text(alloc, image, number(f))?;
         if got.as_str() != wanted {
             return Ok(Some((case, got)));
         }
@@ -142,6 +151,27 @@ const FAULTS_CASES: &str = "\
 fn the_first_fault_is_told(rt: HostRuntime) -> Result<(), Fail> {
     assert_eq!(rt; first_wrong(rt.alloc(), ZERO_WORD, ZERO_WORD_CASES)?, None);
     assert_eq!(rt; first_wrong(rt.alloc(), FAULTS, FAULTS_CASES)?, None);
+    Ok(())
+}
+
+/// The function `a` has the first two words, `b` the last two, and one between them the second and the third.
+const OVERLAP_CASES: &str = "\
+0 = overlap 1
+1 = overlap 0
+2 = overlap 1
+";
+
+const NEIGHBOURS_CASES: &str = "\
+0 = 10000..10008>
+1 = 10008..10010>
+";
+
+#[test]
+fn functions_that_overlap_have_no_blocks(rt: HostRuntime) -> Result<(), Fail> {
+    let alloc = rt.alloc();
+    assert_eq!(rt; first_wrong(alloc, NEIGHBOURS, NEIGHBOURS_CASES)?, None);
+    let image = image_with_function(alloc, NEIGHBOURS, 0x10004, 8)?;
+    assert_eq!(rt; wrong_in(alloc, &image, OVERLAP_CASES)?, None);
     Ok(())
 }
 

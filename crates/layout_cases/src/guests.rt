@@ -1,8 +1,10 @@
 //! Guests as text, and their images.
 
 use elf_make::make::make_elf;
+use elf_read::elf::Symbol;
 use elf_read::read::read_elf;
 use image::picture::Image;
+use oc_base::items::Items;
 use relocs::build::build_image;
 use rv_asm::assemble::assemble;
 use std::alloc::Global;
@@ -54,6 +56,11 @@ pub const FAULTS: &str = "\
 .func g; nop; beq x0,x0,0x1002e; beq x0,x0,0x10000; .end
 ";
 
+/// Two functions side by side.
+pub const NEIGHBOURS: &str = "\
+.func a; nop; nop; .end; .func b; nop; nop; .end
+";
+
 /// The image of a text's program.
 pub fn image_of(alloc: Global, text: &str) -> Result<Image, Fail> {
     let text = text.as_bytes();
@@ -63,6 +70,25 @@ pub fn image_of(alloc: Global, text: &str) -> Result<Image, Fail> {
     let program = assemble(alloc, text)?;
     let file = make_elf(alloc, &program)?;
     let parts = read_elf(alloc, file.as_slice())?;
+    Ok(build_image(alloc, &parts, None)?)
+}
+
+/// The image of a text's program with one more function in its text.
+pub fn image_with_function(alloc: Global, text: &str, from: u64, size: u64) -> Result<Image, Fail> {
+    let text = text.as_bytes();
+    if text.len() > 67_108_864 {
+        return Err(Fail::new("too long"));
+    }
+    let program = assemble(alloc, text)?;
+    let file = make_elf(alloc, &program)?;
+    let mut parts = read_elf(alloc, file.as_slice())?;
+    parts.symbols.push(Symbol {
+        name: Items::new(alloc),
+        info: 2,
+        section: 1,
+        value: from,
+        size,
+    })?;
     Ok(build_image(alloc, &parts, None)?)
 }
 

@@ -72,8 +72,8 @@ impl Model for Plan {
 }
 
 impl Plan {
-    /// The plan of an image that has these parts. An image whose function can't be cut into blocks takes any order of
-    /// its numbers from 0 on.
+    /// The plan of an image that has these parts. A function that can't be cut into blocks takes each order of the
+    /// numbers from 0 up to some number.
     #[tactic(auto, unfolding(crate::specs::Given::plan_fault))]
     pub fn given(alloc: Global, image: &Image, parts: &[Moved]) -> Result<Plan, PlanFault>
         ensures is { IfOk result (λ plan. plan ≡ parts.now) }

@@ -35,12 +35,12 @@ pub returns-clause-low : goal.returns-clause-low
 returns-clause-low c =
     let all : c.self.inside.all ≡ c.args.self.now.all = ap (λ (s : Space). s.all) c.self.view_is in
     subst (λ (r : Range). IfSome c.fit.result (λ at. r.from ≤ at)) all
-      (fit_is_low c.self.inside.all.from c.self.inside.all.to c.self.inside.free.items c.args.n c.fit.result c.self.invariant.order
-      (c.fit.ensures ∙ ap (λ (rs : List Range). fit rs c.args.n) c.deref.ensures.value))
+    (fit_is_low c.self.inside.all.from c.self.inside.all.to c.self.inside.free.items c.args.n c.fit.result c.self.invariant.order
+    (c.fit.ensures ∙ ap (λ (rs : List Range). fit rs c.args.n) c.deref.ensures.value))
 
 pub returns-clause-high : goal.returns-clause-high
 returns-clause-high c =
     let all : c.self.inside.all ≡ c.args.self.now.all = ap (λ (s : Space). s.all) c.self.view_is in
     subst (λ (r : Range). IfSome c.fit.result (λ at. at + c.args.n ≤ r.to)) all
-      (fit_is_high c.self.inside.all.from c.self.inside.all.to c.self.inside.free.items c.args.n c.fit.result c.self.invariant.order
-      (c.fit.ensures ∙ ap (λ (rs : List Range). fit rs c.args.n) c.deref.ensures.value))
+    (fit_is_high c.self.inside.all.from c.self.inside.all.to c.self.inside.free.items c.args.n c.fit.result c.self.invariant.order
+    (c.fit.ensures ∙ ap (λ (rs : List Range). fit rs c.args.n) c.deref.ensures.value))
