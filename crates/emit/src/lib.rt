@@ -1,12 +1,12 @@
 //! The emitter: the layout of a plan at a base.
 #![tactic(auto)]
 
-pub mod calls;
+mod calls;
 pub mod emit;
 pub mod entry;
 pub mod fault;
-pub mod lists;
-pub mod place;
-pub mod plan;
-pub mod starts;
-pub mod unplaced;
+mod lists;
+mod place;
+mod plan;
+mod starts;
+mod unplaced;

@@ -5,5 +5,5 @@ pub mod calls;
 pub mod layout;
 pub mod point;
 pub mod renders;
-pub mod rows;
+mod rows;
 pub mod targets;
