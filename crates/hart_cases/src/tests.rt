@@ -3,7 +3,8 @@
 //! A case is a schedule, as harts and their numbers of steps, and what is wanted: the outcome, what was written to output 1,
 //! and what each hart does: L for live, W for waiting, E for ended.
 
-use elf_make::read_back::read_back;
+use elf_make::make::make_elf;
+use elf_read::read::read_elf;
 use hart::hart::Status;
 use image::picture::Image;
 use machine::machine::Machine;
@@ -260,7 +261,8 @@ fn image_of(alloc: Global, text: &str) -> Result<Image, Fail> {
         return Err(Fail::new("too long"));
     }
     let program = assemble(alloc, text)?;
-    let parts = read_back(alloc, &program)?;
+    let file = make_elf(alloc, &program)?;
+    let parts = read_elf(alloc, file.as_slice())?;
     Ok(build_image(alloc, &parts, None)?)
 }
 
@@ -278,7 +280,7 @@ fn number(word: &str) -> u32 {
 fn run(machine: &mut Machine, image: &Image, schedule: &str) -> Result<(), Fail> {
     for visit in schedule.split_whitespace() {
         let (hart, steps) = visit.split_once('*').unwrap_or(("", ""));
-        machine.run(image, number(hart), number(steps))?;
+        machine.run(image, number(hart), u64::from(number(steps)))?;
     }
     Ok(())
 }
