@@ -5,6 +5,7 @@ use Rattle.std.specs.Prelude.{ℕ, ◌%◌, Bool, true, false, not, ◌==◌, �
 use Rattle.std.specs.List.{list_any, list_all, range_with_len}
 use Rattle.rv_isa.specs.Decoded.{decoded}
 use Rattle.rv_isa.specs.declared.instr.Instr.{Instr}
+use Rattle.rv_isa.specs.declared.instr.Instr.TheVariants.{Jalr}
 use Rattle.image.specs.Picture.{Picture, is_second}
 use Rattle.image.specs.Texts.{word_at, covers}
 use Rattle.link_tags.specs.declared.value.Tag.{Tag}
@@ -37,14 +38,18 @@ abbrev pub place_of : (ℕ → ℕ) → ℕ → State → ℕ
 place_of origin h s = origin (hart_in s.harts h).pc
 
 -- ---- jumps
+-- a jump whose target a register names
+abbrev pub is_indirect : Instr → Bool
+is_indirect (Jalr rd rs1 off) = true
+is_indirect _ = false
+
 -- what ends the run in place of a jump to an address of the original program: one that is no multiple of 4; where it was a
--- plain number that names it, an address outside the text; the second word of a far call. No direct jump goes to such a word,
--- by the image's conditions.
-abbrev pub fault_of_jump : Picture → (pc to : ℕ) → Tag → Option Outcome
-fault_of_jump image pc to by =
+-- plain number that names it, an address outside the text; by an indirect jump, the second word of a far call
+abbrev pub fault_of_jump : Picture → (indirect : Bool) → (pc to : ℕ) → Tag → Option Outcome
+fault_of_jump image indirect pc to by =
     if not (to % 4 == 0) then Some (Trap 0 pc to)
     else (if not (is_link by) && not (list_any (covers to) image.texts) then Some (Trap 1 pc to)
-    else (if is_second image.pairs to then Some (Landing to) else None))
+    else (if indirect && is_second image.pairs to then Some (Landing to) else None))
 
 -- the jump of hart h is made, unless something ends the run
 abbrev pub jumped_unless : Option Outcome → (h to : ℕ) → Option ℕ → State → State
@@ -83,29 +88,29 @@ called origin h d s = record {
 }
 
 -- ---- one step of a live hart h
--- what the machine does by the answer of an instruction, which has done its own part to hart and memory. No instruction that
+-- what the machine does by the answer of an instruction (a jump is an indirect one, or not), which has done its own part to hart and memory. No instruction that
 -- has an effect answers want of memory
-unfoldable pub by_answer : (ℕ → ℕ) → Picture → ℕ → Acted → State → State
-by_answer origin image h acted.Next s = s
-by_answer origin image h (acted.Stored block) s = record s { harts = written_by h block s.harts }
-by_answer origin image h (acted.Jump to by link) s =
-    jumped_unless (fault_of_jump image (place_of origin h s) (original origin (record { number = to; tag = by })) by) h to link s
-by_answer origin image h acted.Call s = called origin h (call_of origin h s) s
-by_answer origin image h (acted.Trap cause value) s = ended (Trap cause (place_of origin h s) value) s
-by_answer origin image h (acted.LinkUse rule) s = ended (LinkUse rule (place_of origin h s)) s
-by_answer origin image h acted.NoMemory s = s
+unfoldable pub by_answer : (ℕ → ℕ) → Picture → ℕ → (indirect : Bool) → Acted → State → State
+by_answer origin image h indirect acted.Next s = s
+by_answer origin image h indirect (acted.Stored block) s = record s { harts = written_by h block s.harts }
+by_answer origin image h indirect (acted.Jump to by link) s =
+    jumped_unless (fault_of_jump image indirect (place_of origin h s) (original origin (record { number = to; tag = by })) by) h to link s
+by_answer origin image h indirect acted.Call s = called origin h (call_of origin h s) s
+by_answer origin image h indirect (acted.Trap cause value) s = ended (Trap cause (place_of origin h s) value) s
+by_answer origin image h indirect (acted.LinkUse rule) s = ended (LinkUse rule (place_of origin h s)) s
+by_answer origin image h indirect acted.NoMemory s = s
 
 -- an effect on the hart itself and on memory
 abbrev pub affected : (ℕ → ℕ) → ℕ → Effect → State → State
 affected origin h e s = record s { harts = slice_set s.harts h (hart_after e (hart_in s.harts h)); memory = memory_after origin e s.memory }
 
-unfoldable pub after_effect : (ℕ → ℕ) → Picture → ℕ → Effect → State → State
-after_effect origin image h e s = by_answer origin image h (answer_of e) (affected origin h e s)
+unfoldable pub after_effect : (ℕ → ℕ) → Picture → ℕ → (indirect : Bool) → Effect → State → State
+after_effect origin image h indirect e s = by_answer origin image h indirect (answer_of e) (affected origin h e s)
 
 -- a word that reads as an instruction, or as none
 abbrev pub on_instr : (ℕ → ℕ) → Picture → (h word : ℕ) → Option Instr → State → State
 on_instr origin image h word None s = ended (Trap 2 (place_of origin h s) word) s
-on_instr origin image h word (Some i) s = after_effect origin image h (effect_of origin s.memory (hart_in s.harts h) i) s
+on_instr origin image h word (Some i) s = after_effect origin image h (is_indirect i) (effect_of origin s.memory (hart_in s.harts h) i) s
 
 -- what was fetched: a word, or none
 unfoldable pub on_fetched : (ℕ → ℕ) → Picture → ℕ → Option ℕ → State → State

@@ -5,11 +5,12 @@ ghost use Rattle.hart.specs.Effects.{effect_of};
 ghost use Rattle.guest_mem.specs.Memory.{is_link_at};
 ghost use Rattle.guest_mem.specs.Access.{links_of, with_link};
 ghost use Rattle.guest_sys.specs.Calls.{output};
+ghost use Rattle.guest_sys.specs.State.{IsOrderly};
 ghost use Rattle.machine.specs.Harts.{is_live, hart_in, replied, woken, written_in};
 ghost use Rattle.machine.specs.Sharing.{HasRoom};
 ghost use Rattle.machine.specs.Start.{start_of};
 ghost use Rattle.machine.specs.Loaded.{IsLoaded};
-ghost use Rattle.machine.specs.Steps.{with_hart, fault_of_jump, call_of, called, end_by, by_answer, after_effect, on_fetched, settled, can_step, original_step, original_run};
+ghost use Rattle.machine.specs.Steps.{with_hart, is_indirect, fault_of_jump, call_of, called, end_by, by_answer, after_effect, on_fetched, settled, can_step, original_step, original_run};
 
 use crate::harts::{Harts, arguments_of};
 use crate::outcome::Outcome;
@@ -56,9 +57,16 @@ impl Model for Machine {
     ghost invariant = { λ m. length m.harts ≡ m.system.made };
 }
 
+/// Whether an instruction is a jump whose target a register names.
+fn is_indirect(i: &Instr) -> bool
+    ensures { result ≡ is_indirect i.now }
+{
+    matches!(*i, Instr::Jalr { .. })
+}
+
 /// What ends the run in place of a jump to an original address, if anything does.
-fn fault_of_jump(image: &Image, pc: u64, to: u64, by: Tag) -> Option<Outcome>
-    ensures { result ≡ fault_of_jump image.now pc to by }
+fn fault_of_jump(image: &Image, indirect: bool, pc: u64, to: u64, by: Tag) -> Option<Outcome>
+    ensures { result ≡ fault_of_jump image.now indirect pc to by }
 {
     if to % 4 != 0 {
         return Some(Outcome::Trap {
@@ -74,7 +82,7 @@ fn fault_of_jump(image: &Image, pc: u64, to: u64, by: Tag) -> Option<Outcome>
             value: to,
         });
     }
-    if image.second_of_pair(to) {
+    if indirect && image.second_of_pair(to) {
         return Some(Outcome::Landing { pc: to });
     }
     None
@@ -201,6 +209,13 @@ impl Machine {
         self.memory.set_link(at, number);
     }
 
+    /// What the system keeps of every run, for a caller's proof. It does nothing.
+    pub fn orderly(&self)
+        ensures { IsOrderly self.now.system }
+    {
+        self.system.orderly();
+    }
+
     /// A jump of hart `h` to `to`, by a plain number or a link.
     #[tactic(auto, unfolding(crate::specs::Steps::by_answer))]
     fn jump<O: Origins>(
@@ -208,12 +223,13 @@ impl Machine {
         image: &Image,
         origins: &O,
         h: u32,
+        indirect: bool,
         to: u64,
         by: Tag,
         link: Option<Reg>,
     )
         requires { h < length self.old.harts }
-        ensures { self.new ≡ by_answer (O.origin origins.now) image.now h (Acted.Jump to by link) self.old }
+        ensures { self.new ≡ by_answer (O.origin origins.now) image.now h indirect (Acted.Jump to by link) self.old }
     {
         let pc = origins.origin(self.harts.at(h).pc);
         let target = original(
@@ -223,7 +239,7 @@ impl Machine {
             },
             origins,
         );
-        match fault_of_jump(image, pc, target, by) {
+        match fault_of_jump(image, indirect, pc, target, by) {
             None => self.harts.jump(h, to, link),
             Some(outcome) => self.outcome = Some(outcome),
         }
@@ -238,6 +254,7 @@ impl Machine {
     }
 
     /// A system call of hart `h`. After want of memory all is as before.
+    #[inline(never)]
     #[tactic(auto, unfolding(crate::specs::Steps::called, crate::specs::Steps::call_of))]
     fn call<O: Origins>(&mut self, origins: &O, h: u32) -> Result<(), NoMemory>
         requires { h < length self.old.harts }
@@ -273,13 +290,15 @@ impl Machine {
     ) -> Result<(), NoMemory>
         requires made { h < length self.old.harts }
         requires word { HasWord i.now }
-        ensures ok { OnOk result (self.new ≡ after_effect (O.origin origins.now) image.now h (effect_of (O.origin origins.now) self.old.memory (hart_in self.old.harts h) i.now) self.old) }
+        ensures ok { OnOk result (self.new ≡ after_effect (O.origin origins.now) image.now h (is_indirect i.now) (effect_of (O.origin origins.now) self.old.memory (hart_in self.old.harts h) i.now) self.old) }
         ensures err { OnErr result (self.new ≡ self.old) }
     {
         match self.harts.act(h, &mut self.memory, origins, i) {
             Acted::Next => {}
             Acted::Stored { block } => self.harts.write(h, block),
-            Acted::Jump { to, by, link } => self.jump(image, origins, h, to, by, link),
+            Acted::Jump { to, by, link } => {
+                self.jump(image, origins, h, is_indirect(i), to, by, link);
+            }
             Acted::Call => {
                 let Ok(()) = self.call(origins, h) else {
                     return Err(NoMemory);
