@@ -1,0 +1,170 @@
+-- Harts that are woken, and those that wait on, after a call.
+use Rattle.std.proofs.Common.{◌≡◌, ◌≢◌, ℕ, zero, suc, true, List, [], ◌∷◌, ◌++◌, get_or, refl, sym, ap, ◌∙◌, subst}
+use Rattle.std.specs.Prelude.{All, AllPairs, slice_get, slice_set}
+use Rattle.std.proofs.lemmas.List.Elements.{All-nil, All-head, All-tail, All-map, All-push}
+use Rattle.oc_base.specs.declared.range.Range.{Range}
+use Rattle.hart.specs.declared.hart.Hart.{Hart}
+use Rattle.hart.specs.declared.hart.Status.{Status}
+use Rattle.hart.specs.declared.hart.Status.TheVariants.{Live, Waiting, Ended}
+use Rattle.guest_sys.specs.declared.state.Waiter.{Waiter}
+use Rattle.guest_sys.specs.declared.effect.Reply.{Reply}
+use Rattle.guest_sys.specs.declared.effect.Reply.TheVariants as reply
+use Rattle.guest_sys.specs.Waiting.{first_at, others, harts, requeued}
+use Rattle.guest_sys.specs.Calls.{Done, ranges}
+use Rattle.machine.specs.Harts.{is_live, hart_in, is_in, written_in, awake, woken, stopped, replied}
+use Rattle.machine.specs.Steps.{harts_after}
+use Rattle.sim_laws.specs.Related.{is_waiting, AreWaiting}
+use Rattle.sim_laws.proofs.HartLists.{live_at, get_set, get_other, hart_at}
+use Rattle.sim_laws.proofs.Settled.{StillWait, waits_set, waits_map}
+use Rattle.sim_laws.proofs.Written.{hart_map}
+use Rattle.sim_laws.proofs.Fair.{Queued, stays, joins, wakes, moves}
+use Rattle.sim_laws.proofs.Queue.{Other, pairs_nil, pairs_map, after_wake, wake_all, requeue_all, after_requeue, after_join}
+
+abbrev IsLiveIn : List Hart → ℕ → Type 0
+IsLiveIn hs h = is_live (hart_in hs h).status ≡ true
+
+abbrev pub WaitsIn : List Hart → ℕ → Type 0
+WaitsIn hs k = is_waiting (hart_in hs k).status ≡ true
+
+pub clash : (s : Status) → is_live s ≡ true → is_waiting s ≡ true → ⊥
+clash Live e f = absurd (cc)
+clash (Waiting at) e f = absurd (cc)
+clash Ended e f = absurd (cc)
+
+pub hart_other : (hs : List Hart) (h k : ℕ) (y : Hart) → k ≢ h → hart_in (slice_set hs h y) k ≡ hart_in hs k
+hart_other [] h k y n = refl
+hart_other (z ∷ zs) zero zero y n = absurd (n refl)
+hart_other (z ∷ zs) zero (suc k) y n = refl
+hart_other (z ∷ zs) (suc h) zero y n = refl
+hart_other (z ∷ zs) (suc h) (suc k) y n = hart_other zs h k y (λ e. n (ap suc e))
+
+pub hart_set : (hs : List Hart) (h : ℕ) (y : Hart) → IsLiveIn hs h → hart_in (slice_set hs h y) h ≡ y
+hart_set hs h y live = hart_at (slice_set hs h y) h y (get_set hs h (hart_in hs h) y (live_at hs h live))
+
+lives_set : (hs : List Hart) (k : ℕ) (x : Hart) → is_live x.status ≡ true → (h : ℕ) → IsLiveIn hs h → IsLiveIn (slice_set hs k x) h
+lives_set [] k x l h e = e
+lives_set (y ∷ ys) zero x l zero e = l
+lives_set (y ∷ ys) zero x l (suc h) e = e
+lives_set (y ∷ ys) (suc k) x l zero e = e
+lives_set (y ∷ ys) (suc k) x l (suc h) e = lives_set ys k x l h e
+
+pub lives_woken : (ks : List ℕ) (hs : List Hart) (h : ℕ) → IsLiveIn hs h → IsLiveIn (woken ks hs) h
+lives_woken [] hs h e = e
+lives_woken (k ∷ ks) hs h e = lives_woken ks (slice_set hs k (awake (hart_in hs k))) h (lives_set hs k (awake (hart_in hs k)) refl h e)
+
+pub lives_written : (rs : List Range) (hs : List Hart) (h : ℕ) → IsLiveIn hs h → IsLiveIn (written_in rs hs) h
+unfolding written_in
+lives_written rs hs h e = ap (λ (x : Hart). is_live x.status) (hart_map (is_in rs) hs h) ∙ e
+
+-- who isn't woken
+pub get_woken : (ks : List ℕ) (hs : List Hart) (h : ℕ) → All (λ j. h ≢ j) ks → slice_get (woken ks hs) h ≡ slice_get hs h
+get_woken [] hs h n = refl
+get_woken (k ∷ ks) hs h n =
+    get_woken ks (slice_set hs k (awake (hart_in hs k))) h (All-tail (λ j. h ≢ j) k ks n) ∙ get_other hs k h (awake (hart_in hs k)) (All-head (λ j. h ≢ j) k ks n)
+
+waits_woken : (ks : List ℕ) (hs : List Hart) (k : ℕ) → All (λ j. k ≢ j) ks → WaitsIn hs k → WaitsIn (woken ks hs) k
+waits_woken [] hs k n e = e
+waits_woken (j ∷ js) hs k n e =
+    waits_woken js (slice_set hs j (awake (hart_in hs j))) k (All-tail (λ j. k ≢ j) j js n)
+    (ap (λ (x : Hart). is_waiting x.status) (hart_other hs j k (awake (hart_in hs j)) (All-head (λ j. k ≢ j) j js n)) ∙ e)
+
+pub waits_written_in : (rs : List Range) (hs : List Hart) → StillWait hs (written_in rs hs)
+unfolding written_in
+waits_written_in rs hs = waits_map (is_in rs) hs
+
+waits_push : (hs : List Hart) (x : Hart) → StillWait hs (hs ++ x ∷ [])
+waits_push [] x k e = absurd (cc)
+waits_push (y ∷ ys) x zero e = e
+waits_push (y ∷ ys) x (suc k) e = waits_push ys x k e
+
+waits_at_live : (hs : List Hart) (h : ℕ) (x : Hart) → IsLiveIn hs h → StillWait hs (slice_set hs h x)
+waits_at_live hs h x live = waits_set hs h x (λ e. absurd (clash (hart_in hs h).status live e))
+
+waits_replied : (h : ℕ) (r : Reply) (hs : List Hart) → IsLiveIn hs h → StillWait hs (replied h r hs)
+unfolding replied
+waits_replied h (reply.Answer value) hs live = waits_at_live hs h _ live
+waits_replied h (reply.Wait at) hs live = waits_at_live hs h _ live
+waits_replied h reply.EndHart hs live = waits_at_live hs h _ live
+waits_replied h (reply.Clone stack thread clear tid) hs live = λ k e. waits_push _ _ k (waits_at_live hs h _ live k e)
+waits_replied h (reply.SetClear clear) hs live = waits_at_live hs h _ live
+waits_replied h r hs live = λ k e. e
+
+joins_waiting : (h at : ℕ) (hs : List Hart) → IsLiveIn hs h → WaitsIn (replied h (reply.Wait at) hs) h
+unfolding replied
+joins_waiting h at hs live = ap (λ (x : Hart). is_waiting x.status) (hart_set hs h (stopped (Waiting at) (hart_in hs h)) live)
+
+-- those that are woken wait, none is there twice, and hart h isn't among them
+pub record AreWoken (h : ℕ) (ks : List ℕ) (hs : List Hart) : Type 0 where
+  pub wait : All (WaitsIn hs) ks
+  pub once : AllPairs (λ j k. j ≢ k) ks
+  pub elsewhere : All (λ j. h ≢ j) ks
+
+module _ (h : ℕ) (d : Done) (hs : List Hart) (ws : List Waiter) (live : IsLiveIn hs h) (a : AreWaiting ws hs) where
+  still : (k : ℕ) → All (λ j. k ≢ j) d.woken → WaitsIn hs k → WaitsIn (harts_after h d hs) k
+  still k far e =
+      let rs = ranges d.changes in
+      waits_replied h d.reply (woken d.woken (written_in rs hs)) (lives_woken d.woken (written_in rs hs) h (lives_written rs hs h live)) k
+      (waits_woken d.woken (written_in rs hs) k far (waits_written_in rs hs k e))
+
+  -- those that aren't woken
+  left : (fs vs : List Waiter) → d.woken ≡ harts fs → All (λ v. WaitsIn hs v.hart) vs → All (λ v. All (Other v) fs) vs → All (λ v. WaitsIn (harts_after h d hs) v.hart) vs
+  left fs vs e wait far k x l =
+      still (get_or vs k x).hart (subst (All (λ j. (get_or vs k x).hart ≢ j)) (sym e) (All-map (λ j. (get_or vs k x).hart ≢ j) (λ (w : Waiter). w.hart) fs (far k x l))) (wait k x l)
+
+  none_woken : (vs : List Waiter) → All (λ v. All (Other v) []) vs
+  none_woken vs k x l = All-nil (Other (get_or vs k x))
+
+  as_list : (vs : List Waiter) → d.state.waiting ≡ vs → AreWaiting vs (harts_after h d hs) → AreWaiting d.state.waiting (harts_after h d hs)
+  as_list vs e k = subst (λ us. AreWaiting us (harts_after h d hs)) (sym e) k
+
+  joined : (at : ℕ) → d.reply ≡ reply.Wait at → WaitsIn (harts_after h d hs) h
+  joined at e =
+      let rs = ranges d.changes in
+      let hs1 = woken d.woken (written_in rs hs) in
+      subst (λ r. WaitsIn (replied h r hs1) h) (sym e) (joins_waiting h at hs1 (lives_woken d.woken (written_in rs hs) h (lives_written rs hs h live)))
+
+  pub not_waiting : All (λ w. w.hart ≢ h) ws
+  not_waiting k x l e = clash (hart_in hs h).status live (subst (WaitsIn hs) e (a.wait k x l))
+
+  pub queue_kept : Queued ws h d → AreWaiting d.state.waiting (harts_after h d hs)
+  queue_kept (stays q e f) = as_list ws f (record { wait = left [] ws e a.wait (none_woken ws); once = a.once })
+  queue_kept (joins at q e f) =
+      as_list (ws ++ (record { hart = h; at = at }) ∷ []) f (record {
+        wait = All-push (λ v. WaitsIn (harts_after h d hs) v.hart) ws (record { hart = h; at = at }) (left [] ws e a.wait (none_woken ws)) (joined at q);
+        once = after_join h at ws a.once not_waiting;
+      })
+  queue_kept (wakes n b q e f) =
+      let split = after_wake n b ws a.once in
+      as_list (others n b ws) f (record {
+        wait = left (first_at n b ws) (others n b ws) e (wake_all (λ v. WaitsIn hs v.hart) n b ws a.wait).1 split.not_woken;
+        once = split.left_once;
+      })
+  queue_kept (moves n b m to q e f) =
+      let split = after_requeue n b m to ws a.once in
+      as_list (requeued m b to (others n b ws)) f (record {
+        wait = left (first_at n b ws) (requeued m b to (others n b ws)) e (requeue_all (WaitsIn hs) m b to (others n b ws) (wake_all (λ v. WaitsIn hs v.hart) n b ws a.wait).1) split.not_woken;
+        once = split.left_once;
+      })
+
+  as_woken : (ks : List ℕ) → d.woken ≡ ks → AreWoken h ks hs → AreWoken h d.woken hs
+  as_woken ks e k = subst (λ js. AreWoken h js hs) (sym e) k
+
+  none_of : AreWoken h [] hs
+  none_of = record { wait = All-nil (WaitsIn hs); once = pairs_nil (λ j k. j ≢ k); elsewhere = All-nil (λ j. h ≢ j) }
+
+  first_of : (n b : ℕ) → AreWoken h (harts (first_at n b ws)) hs
+  first_of n b = record {
+    wait = All-map (WaitsIn hs) (λ (w : Waiter). w.hart) (first_at n b ws) (wake_all (λ w. WaitsIn hs w.hart) n b ws a.wait).0;
+    once = pairs_map (λ j k. j ≢ k) (λ (w : Waiter). w.hart) (first_at n b ws) (after_wake n b ws a.once).woken_once;
+    elsewhere = All-map (λ j. h ≢ j) (λ (w : Waiter). w.hart) (first_at n b ws) (λ k x l e. (wake_all (λ w. w.hart ≢ h) n b ws not_waiting).0 k x l (sym e));
+  }
+
+  pub queue_woken : Queued ws h d → AreWoken h d.woken hs
+  queue_woken (stays q e f) = as_woken [] e none_of
+  queue_woken (joins at q e f) = as_woken [] e none_of
+  queue_woken (wakes n b q e f) = as_woken (harts (first_at n b ws)) e (first_of n b)
+  queue_woken (moves n b m to q e f) = as_woken (harts (first_at n b ws)) e (first_of n b)
+
+-- at a start none waits
+pub none_waits : (hs : List Hart) → AreWaiting [] hs
+none_waits hs = record { wait = All-nil (λ w. WaitsIn hs w.hart); once = pairs_nil Other }
