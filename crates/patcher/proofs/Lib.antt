@@ -1,0 +1,12 @@
+pub mod CallLists
+pub mod CallWords
+pub mod Joined
+pub mod Keeps
+pub mod Listed
+pub mod MoreRows
+pub mod Patching
+pub mod PutAll
+pub mod Spans
+pub mod Tallies
+pub mod Words
+pub mod Worked

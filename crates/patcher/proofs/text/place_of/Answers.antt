@@ -1,0 +1,6 @@
+use Rattle.finite.proofs.Finding.{position_holds}
+use Rattle.image.specs.Texts.{covers}
+use Rattle.patcher.proofs.text.place_of.Goals as goal
+
+pub returns-clause-covers : goal.returns-clause-covers
+returns-clause-covers c = position_holds (covers c.args.at) c.args.sections.now c.place_covering.result c.place_covering.ensures.place
