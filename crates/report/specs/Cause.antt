@@ -1,5 +1,5 @@
 -- Why a call ended as it did, and what it has written by then.
-use Rattle.std.specs.Prelude.{◌≡◌, ◌≢◌, ◌⊎◌, ℕ, List, [], ◌++◌, Option, Result, Ok, Err}
+use Rattle.std.specs.Prelude.{◌≡◌, ◌≢◌, ◌⊎◌, ℕ, List, [], ◌++◌, Option, Result, Ok, Err, if◌then◌else◌}
 use Rattle.oc_base.specs.Outside.{gained, GainedPart}
 use Rattle.report.specs.declared.answer.Ended.{Ended}
 use Rattle.report.specs.declared.answer.Ended.TheVariants.{Ran, Usage, ReadFault, WriteFault, NoMemory}
@@ -32,13 +32,27 @@ abbrev pub out_of : Result Delivery Ended → List ℕ
 out_of (Ok delivery) = delivery.out
 out_of (Err ended) = []
 
--- the bytes for the second: the guest's own, and the last line
+-- the report, where it is to be shown
+abbrev pub shown_of : Delivery → List ℕ
+shown_of delivery = if delivery.shown then delivery.report else []
+
+-- the bytes for the second: the guest's own, the report where it is to be shown, and the last line
 abbrev pub err_of : Result Delivery Ended → List ℕ
-err_of (Ok delivery) = delivery.err ++ line_of (Ran delivery.outcome)
+err_of (Ok delivery) = (delivery.err ++ shown_of delivery) ++ line_of (Ran delivery.outcome)
 err_of (Err ended) = line_of ended
 
+-- the report of a run, shown or not; after a refusal there is none
+abbrev pub report_of : Result Delivery Ended → List ℕ
+report_of (Ok delivery) = delivery.report
+report_of (Err ended) = []
+
 abbrev pub writing_of : Result Delivery Ended → Writing
-writing_of decision = record { ended = ended_of decision; out = out_of decision; err = err_of decision }
+writing_of decision = record { ended = ended_of decision; out = out_of decision; err = err_of decision; report = report_of decision }
+
+-- the report of an answer: that of the run that was written, and none after any other end
+abbrev pub reported : Writing → Ended → List ℕ
+reported writing (Ran outcome) = writing.report
+reported writing _ = []
 
 -- All of it was written.
 pub record AllWritten (writing : Writing) (out_was out_now err_was err_now : Option (List ℕ)) (answer : Ended) : Type 0 where

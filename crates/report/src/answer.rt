@@ -5,6 +5,7 @@ ghost use Rattle.report.specs.Answer.{status_of};
 
 use elf_read::fault::ElfFault;
 use machine::outcome::Outcome;
+use oc_base::items::Items;
 use oc_base::text::Text;
 use relocs::fault::ImageFault;
 use sched_log::fault::ScriptFault;
@@ -48,6 +49,8 @@ pub struct Answer {
     /// The exit status of the program that made the call.
     pub status: u8,
     pub ended: Ended,
+    /// The report of the run, where the call ran one and wrote all that it delivers; else empty.
+    pub report: Items<u8>,
 }
 
 /// The exit status of a call that ended so.

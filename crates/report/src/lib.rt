@@ -6,6 +6,7 @@ pub mod line;
 pub mod reading;
 #[cfg(test)]
 mod tests;
+pub mod text;
 pub mod writing;
 
 /// The most bytes of an input.

@@ -1,11 +1,17 @@
-//! The last line and the exit status of each end.
+//! The last line and the exit status of each end, and reports.
 
-use crate::answer::{Ended, ProgramFault, status};
+use crate::answer::{Answer, Ended, ProgramFault, status};
 use crate::line::last_line;
+use crate::text::report;
+use crate::writing::{Delivery, deliver, prepare};
+use blocks::fault::Unreadable;
 use elf_read::fault::ElfFault;
 use machine::outcome::Outcome;
+use oc_base::items::Items;
+use oc_base::memory::MemSink;
 use oc_base::text::Text;
 use relocs::fault::ImageFault;
+use sched_log::facts::{Facts, HartFact, LayoutFact, Refusal, Refused};
 use sched_log::fault::ScriptFault;
 use std::alloc::Global;
 use std::process::Abort;
@@ -72,5 +78,154 @@ fn a_refusal_tells_its_cause(rt: HostRuntime) -> Result<(), Fail> {
     let none = last_line(alloc, &Ended::WriteFault)?;
     assert_eq!(&rt; status(&Ended::WriteFault), 122);
     assert!(&rt; none.as_slice().is_empty());
+    Ok(())
+}
+
+/// The text with a newline for each `|`.
+fn lines(alloc: Global, text: &str) -> Result<Vec<u8>, Fail> {
+    let mut bytes = Vec::new(alloc);
+    for byte in text.as_bytes() {
+        bytes.push(if *byte == b'|' { b'\n' } else { *byte })?;
+    }
+    Ok(bytes)
+}
+
+/// The facts of a run of 20 real steps with a replacement that was done.
+fn moved_once(alloc: Global) -> Result<Facts, Fail> {
+    let layout = LayoutFact {
+        number: 1,
+        base: 0x12000,
+        words: 9,
+    };
+    Ok(Facts {
+        real: 20,
+        layout: 3,
+        snaps: 0,
+        attempts: 1,
+        done: 1,
+        retired: 0,
+        refusals: Items::new(alloc),
+        sites: 2,
+        slots: 0,
+        layouts: Items::from_slice(alloc, &[layout])?,
+        harts: Items::from_slice(alloc, &[HartFact::Ended])?,
+    })
+}
+
+#[test]
+fn a_report_has_a_line_for_each_fact(rt: HostRuntime) -> Result<(), Fail> {
+    let alloc = rt.alloc();
+    let facts = moved_once(alloc)?;
+    let wanted =
+        "real 20 layout 3|snaps 0 attempts 1 done 1 refused 0 retired 0|sites 2 slots 0|layout 1 0x12000 9|hart 0 ended|";
+    let text = report(alloc, &facts)?;
+    assert_eq!(rt; text.as_slice(), lines(alloc, wanted)?.as_slice());
+    Ok(())
+}
+
+/// One of each refusal, with its attempt's number.
+const REFUSALS: [(u64, Refusal); 6] = [
+    (
+        1,
+        Refusal::RegionFull {
+            need: 4100,
+            largest: 4096,
+        },
+    ),
+    (
+        2,
+        Refusal::BranchReach {
+            at: 0x10000,
+            target: 0x200000,
+        },
+    ),
+    (
+        4,
+        Refusal::Unreadable {
+            func: 1,
+            why: Unreadable::Undecodable(0x10008),
+        },
+    ),
+    (
+        5,
+        Refusal::Unreadable {
+            func: 12,
+            why: Unreadable::BranchOut(0x1abcc),
+        },
+    ),
+    (
+        6,
+        Refusal::Unreadable {
+            func: 3,
+            why: Unreadable::Misaimed(0x10018),
+        },
+    ),
+    (
+        114,
+        Refusal::Unreadable {
+            func: 0,
+            why: Unreadable::Overlap(10),
+        },
+    ),
+];
+
+#[test]
+fn each_refusal_and_each_hart_has_its_line(rt: HostRuntime) -> Result<(), Fail> {
+    let alloc = rt.alloc();
+    let mut facts = moved_once(alloc)?;
+    for (attempt, refusal) in REFUSALS {
+        facts.refusals.push(Refused { attempt, refusal })?;
+    }
+    facts.harts.push(HartFact::Live {
+        original: 0x1001c,
+        pc: 0x12004,
+    })?;
+    facts.harts.push(HartFact::Waiting {
+        original: 0,
+        pc: 0xffff_ffff_ffff_fffc,
+    })?;
+    let wanted =
+        "real 20 layout 3|snaps 0 attempts 1 done 1 refused 6 retired 0|refusal 1 region 4100 4096|\
+refusal 2 reach 0x10000 0x200000|refusal 4 unreadable 1 1 0x10008|refusal 5 unreadable 12 2 0x1abcc|\
+refusal 6 unreadable 3 3 0x10018|refusal 114 unreadable 0 4 10|sites 2 slots 0|layout 1 0x12000 9|\
+hart 0 ended|hart 1 live 0x1001c 0x12004|hart 2 waiting 0x0 0xfffffffffffffffc|";
+    let text = report(alloc, &facts)?;
+    assert_eq!(rt; text.as_slice(), lines(alloc, wanted)?.as_slice());
+    Ok(())
+}
+
+/// What is written to both outputs for a run with a report.
+fn written(alloc: Global, shown: bool) -> Result<Answer, Fail> {
+    let delivery = Delivery {
+        outcome: Outcome::Exit(28),
+        out: Items::from_slice(alloc, b"a")?,
+        err: Items::from_slice(alloc, b"b\n")?,
+        report: Items::from_slice(alloc, b"c\n")?,
+        shown,
+    };
+    let writing = prepare(alloc, Ok(delivery))?;
+    let mut out = MemSink::new(Vec::new(alloc), Vec::new(alloc));
+    let mut err = MemSink::new(Vec::new(alloc), Vec::new(alloc));
+    let answer = deliver(alloc, writing, &mut out, &mut err);
+    let wanted: &[u8] = if shown {
+        b"b\nc\nocolos: exit 28\n"
+    } else {
+        b"b\nocolos: exit 28\n"
+    };
+    if out.held() != b"a".as_slice() || err.held() != wanted {
+        return Err(Fail::new("other bytes"));
+    }
+    Ok(answer)
+}
+
+#[test]
+fn a_report_is_shown_before_the_last_line_where_it_is_asked_for(
+    rt: HostRuntime,
+) -> Result<(), Fail> {
+    for shown in [false, true] {
+        let answer = written(rt.alloc(), shown)?;
+        assert_eq!(rt; answer.status, 28);
+        assert_eq!(rt; answer.report.as_slice(), b"c\n".as_slice());
+    }
     Ok(())
 }

@@ -1,10 +1,11 @@
 //! What a call writes, and writing it.
 
-ghost use Rattle.std.specs.Prelude.{◌≡◌, ◌≢◌, ◌≤◌, ◌++◌, Err, IfOk};
+ghost use Rattle.std.specs.Prelude.{◌≡◌, ◌≢◌, ◌≤◌, ◌++◌, [], Err, IfOk, if◌then◌else◌};
 ghost use Rattle.oc_base.specs.Outside.{Rose};
-ghost use Rattle.report.specs.Cause.{writing_of, Wrote};
+ghost use Rattle.report.specs.Answer.{status_of};
+ghost use Rattle.report.specs.Cause.{writing_of, reported, shown_of, Wrote};
 
-use crate::answer::Ended;
+use crate::answer::{Answer, Ended, status};
 use crate::line::last_line;
 use machine::outcome::Outcome;
 use oc_base::fault::NoMemory;
@@ -12,30 +13,42 @@ use oc_base::items::Items;
 use oc_base::sink::{Sink, write_all};
 use std::alloc::Global;
 
-/// How a run ended, and what it wrote: its first output, and its second with a newline at its end.
+/// How a run ended, and what it wrote: its first output, and its second with a newline at its end; its report, and whether that
+/// is to be shown.
 #[derive(Debug, Drop)]
 pub struct Delivery {
     pub outcome: Outcome,
     pub out: Items<u8>,
     pub err: Items<u8>,
+    pub report: Items<u8>,
+    pub shown: bool,
 }
 
-/// What is to be written, and how a call ends that can write it.
+/// What is to be written, how a call ends that can write it, and the report that it then answers.
 #[derive(Debug, Drop)]
 pub struct Writing {
     pub ended: Ended,
     pub out: Items<u8>,
     pub err: Items<u8>,
+    pub report: Items<u8>,
 }
 
-// One text behind the other.
-fn joined(alloc: Global, first: &[u8], second: &[u8]) -> Result<Items<u8>, NoMemory>
-    ensures { IfOk result (λ all. all ≡ first.now ++ second.now) }
+// The second output, the report where it is to be shown, and the last line.
+fn closing(alloc: Global, err: &[u8], shown: &[u8], last: &[u8]) -> Result<Items<u8>, NoMemory>
+    ensures { IfOk result (λ all. all ≡ (err.now ++ shown.now) ++ last.now) }
 {
     let mut all = Items::new(alloc);
-    all.extend_from_slice(first)?;
-    all.extend_from_slice(second)?;
+    all.extend_from_slice(err)?;
+    all.extend_from_slice(shown)?;
+    all.extend_from_slice(last)?;
     Ok(all)
+}
+
+// The part of a report that is shown.
+fn shown(report: &[u8], is_shown: bool) -> &[u8]
+    ensures { result.now ≡ (if is_shown then report.now else []) }
+{
+    if is_shown { report } else { &[] }
 }
 
 /// All text of a decision, made before the first byte is written. Want of memory has no text.
@@ -45,33 +58,89 @@ pub fn prepare(alloc: Global, decision: Result<Delivery, Ended>) -> Result<Writi
 {
     match decision {
         Ok(delivery) => {
-            let Delivery { outcome, out, err } = delivery;
+            let Delivery {
+                outcome,
+                out,
+                err,
+                report,
+                shown: is_shown,
+            } = delivery;
             let ended = Ended::Ran(outcome);
             let last = last_line(alloc, &ended)?;
-            let err = joined(alloc, err.as_slice(), last.as_slice())?;
-            Ok(Writing { ended, out, err })
+            let shown = shown(report.as_slice(), is_shown);
+            let err = closing(alloc, err.as_slice(), shown, last.as_slice())?;
+            Ok(Writing {
+                ended,
+                out,
+                err,
+                report,
+            })
         }
         Err(Ended::NoMemory) => Err(NoMemory),
         Err(ended) => {
             let err = last_line(alloc, &ended)?;
             let out = Items::new(alloc);
-            Ok(Writing { ended, out, err })
+            let report = Items::new(alloc);
+            Ok(Writing {
+                ended,
+                out,
+                err,
+                report,
+            })
         }
     }
 }
 
+// The answer of a call that could not write all.
+fn unwritten(alloc: Global) -> Answer
+    ensures { result ≡ (record { status = 122; ended = Ended.WriteFault; report = [] }) }
+{
+    Answer {
+        status: status(&Ended::WriteFault),
+        ended: Ended::WriteFault,
+        report: Items::new(alloc),
+    }
+}
+
+// The answer of a call that has written all.
+fn answered(alloc: Global, writing: Writing) -> Answer
+    ensures { result ≡ (record { status = status_of writing.ended; ended = writing.ended; report = reported writing writing.ended }) }
+{
+    let Writing { ended, report, .. } = writing;
+    let status = status(&ended);
+    if let Ended::Ran(_) = &ended {
+        return Answer {
+            status,
+            ended,
+            report,
+        };
+    }
+    Answer {
+        status,
+        ended,
+        report: Items::new(alloc),
+    }
+}
+
 /// Writes the first output and then the second, until one fails.
-pub fn deliver<O: Sink, E: Sink>(writing: Writing, out: &mut O, err: &mut E) -> Ended
+pub fn deliver<O: Sink, E: Sink>(
+    alloc: Global,
+    writing: Writing,
+    out: &mut O,
+    err: &mut E,
+) -> Answer
+    ensures status { result.status ≡ status_of result.ended }
     ensures wrote { Wrote writing (O.holds out.old) (O.holds out.new) (E.holds err.old) (E.holds err.new)
-        (Rose (O.faults out.old) (O.faults out.new)) (Rose (E.faults err.old) (E.faults err.new)) result }
+        (Rose (O.faults out.old) (O.faults out.new)) (Rose (E.faults err.old) (E.faults err.new)) result.ended }
+    ensures report { result.report ≡ reported writing result.ended }
     ensures out_faults { O.faults out.old ≤ O.faults out.new }
     ensures err_faults { E.faults err.old ≤ E.faults err.new }
 {
     let Ok(()) = write_all(out, writing.out.as_slice()) else {
-        return Ended::WriteFault;
+        return unwritten(alloc);
     };
     let Ok(()) = write_all(err, writing.err.as_slice()) else {
-        return Ended::WriteFault;
+        return unwritten(alloc);
     };
-    writing.ended
+    answered(alloc, writing)
 }

@@ -3,22 +3,23 @@ use Rattle.std.proofs.Common.{◌≡◌, ℕ, ◌+◌, ◌≤◌, List, [], ◌�
 use Rattle.std.specs.Prelude.{sum_by}
 use Rattle.std.specs.List.{AllByRecursion}
 use Rattle.std.proofs.lemmas.List.Sums.{sum_by-append}
+use Rattle.image.specs.Picture.{Picture}
 use Rattle.sched_log.specs.Ranges.{IsInRange, HasRange, AreInRange}
-use Rattle.sched_log.specs.Script.{count, count_of, event_of}
-use Rattle.sched_log.specs.declared.read.TheConstants.{COUNT_LIMIT}
+use Rattle.sched_log.specs.Script.{count, count_of, plan_count, plans_of, event_of}
+use Rattle.sched_log.specs.declared.read.TheConstants.{COUNT_LIMIT, PLAN_LIMIT}
 use Rattle.sched_log.specs.declared.line.Line.{Line}
 use Rattle.sched_log.specs.declared.line.Line.TheVariants.{Passed, Does, End, Wrong}
 use Rattle.sched_log.specs.declared.event.Event.{Event}
 
-each_more : (events : List Event) (line : Line) → AllByRecursion IsInRange events → HasRange line → AllByRecursion IsInRange (events ++ event_of line)
-each_more [] (Does e) each has = (has, tt)
-each_more [] Passed each has = tt
-each_more [] End each has = tt
-each_more [] (Wrong kind) each has = tt
-each_more (e ∷ es) line each has = (each.0, each_more es line each.1 has)
+each_more : (p : Picture) (events : List Event) (line : Line) → AllByRecursion (IsInRange p) events → HasRange p line → AllByRecursion (IsInRange p) (events ++ event_of line)
+each_more p [] (Does e) each has = (has, tt)
+each_more p [] Passed each has = tt
+each_more p [] End each has = tt
+each_more p [] (Wrong kind) each has = tt
+each_more p (e ∷ es) line each has = (each.0, each_more p es line each.1 has)
 
-pub ranges_later : (events more : List Event) (line : Line) → AllByRecursion IsInRange events → HasRange line → more ≡ events ++ event_of line → AllByRecursion IsInRange more
-ranges_later events more line each has pushed = subst (λ es. AllByRecursion IsInRange es) (sym pushed) (each_more events line each has)
+pub ranges_later : (p : Picture) (events more : List Event) (line : Line) → AllByRecursion (IsInRange p) events → HasRange p line → more ≡ events ++ event_of line → AllByRecursion (IsInRange p) more
+ranges_later p events more line each has pushed = subst (λ es. AllByRecursion (IsInRange p) es) (sym pushed) (each_more p events line each has)
 
 one_sum : (line : Line) → sum_by count (event_of line) ≡ count_of line
 one_sum (Does e) = omega arith
@@ -26,8 +27,17 @@ one_sum Passed = omega arith
 one_sum End = omega arith
 one_sum (Wrong kind) = omega arith
 
+one_plan : (line : Line) → sum_by plan_count (event_of line) ≡ plans_of line
+one_plan (Does e) = omega arith
+one_plan Passed = omega arith
+one_plan End = omega arith
+one_plan (Wrong kind) = omega arith
+
 pub sums_later : (events more : List Event) (line : Line) (sum : ℕ) → sum_by count events ≡ sum → more ≡ events ++ event_of line → sum_by count more ≡ sum + count_of line
 sums_later events more line sum is pushed = ap (sum_by count) pushed ∙ omega (arith, sum_by-append count events (event_of line), one_sum line, is)
 
-pub in_range : (events : List Event) (sum : ℕ) → AllByRecursion IsInRange events → sum_by count events ≡ sum → sum ≤ COUNT_LIMIT → AreInRange events
-in_range events sum each is small = record { each = each; sum = omega (arith, is, small) }
+pub plans_later : (events more : List Event) (line : Line) (plans : ℕ) → sum_by plan_count events ≡ plans → more ≡ events ++ event_of line → sum_by plan_count more ≡ plans + plans_of line
+plans_later events more line plans is pushed = ap (sum_by plan_count) pushed ∙ omega (arith, sum_by-append plan_count events (event_of line), one_plan line, is)
+
+pub in_range : (p : Picture) (events : List Event) (plans sum : ℕ) → AllByRecursion (IsInRange p) events → sum_by plan_count events ≡ plans → plans ≤ PLAN_LIMIT → sum_by count events ≡ sum → sum ≤ COUNT_LIMIT → AreInRange p events
+in_range p events plans sum each is_plans few is small = record { each = each; sum = omega (arith, is, small); plans = omega (arith, is_plans, few) }

@@ -3,7 +3,8 @@ use Rattle.std.proofs.Common.{◌≡◌, ℕ, ◌<◌, Bool, true, false, List, 
 use Rattle.std.specs.Option.{is_some}
 use Rattle.std.specs.List.{slice_split}
 use Rattle.std.proofs.lemmas.List.Splits.{length-slice_split}
-use Rattle.sched_log.specs.Lines.{any_empty, by_words, command}
+use Rattle.sched_log.specs.Plans.{any_empty}
+use Rattle.sched_log.specs.Lines.{by_words, command}
 use Rattle.sched_log.specs.Parts.{parts_behind}
 use Rattle.sched_log.specs.declared.line.Line.TheVariants.{Wrong}
 

@@ -1,5 +1,6 @@
 pub mod Lines
 pub mod Parts
+pub mod Plans
 pub mod Printed
 pub mod Ranges
 pub mod Script

@@ -1,12 +1,18 @@
 -- What a line reads as, by itself.
-use Rattle.std.specs.Prelude.{ℕ, Bool, ◌==◌, ◌||◌, nat_le, List, [], ◌∷◌, length, codes, Option, Some, None, if◌then◌else◌}
-use Rattle.std.specs.List.{slice_split, slice_index_or, list_any}
+use Rattle.std.specs.Prelude.{ℕ, Bool, ◌==◌, ◌||◌, nat_eq, nat_le, List, [], ◌∷◌, length, drop, codes, Option, Some, None, if◌then◌else◌}
+use Rattle.std.specs.List.{slice_index_or, starts_with}
 use Rattle.std.specs.Str.{bytes_eq}
 use Rattle.texts.specs.Texts.{number_of}
+use Rattle.image.specs.Picture.{Picture}
+use Rattle.plans.specs.declared.plan.Moved.{Moved}
+use Rattle.plans.specs.declared.plan.PlanFault.{PlanFault}
+use Rattle.plans.specs.declared.plan.PlanFault.TheVariants.{NoFunction}
+use Rattle.plans.specs.Given.{plan_fault}
+use Rattle.sched_log.specs.Plans.{words, any_empty, is_plan, parts_of}
 use Rattle.sched_log.specs.declared.line.TheConstants.{LAST_HART}
-use Rattle.sched_log.specs.declared.fault.TheConstants.{WRONG_FORM, BAD_NUMBER}
+use Rattle.sched_log.specs.declared.fault.TheConstants.{WRONG_FORM, BAD_NUMBER, NO_FUNCTION, NOT_A_PLAN}
 use Rattle.sched_log.specs.declared.event.Event.{Event}
-use Rattle.sched_log.specs.declared.event.Event.TheVariants.{Steps, Real, Till}
+use Rattle.sched_log.specs.declared.event.Event.TheVariants.{Steps, Real, Till, Given}
 use Rattle.sched_log.specs.declared.line.Line.{Line}
 use Rattle.sched_log.specs.declared.line.Line.TheVariants.{Passed, Does, End, Wrong}
 
@@ -30,16 +36,30 @@ command (name ∷ h ∷ n ∷ []) =
     else Wrong WRONG_FORM
 command _ = Wrong WRONG_FORM
 
-abbrev pub any_empty : List (List ℕ) → Bool
-any_empty words = list_any (λ w. length w == 0) words
-
 abbrev pub by_words : List (List ℕ) → Line
 by_words words = if any_empty words then Wrong WRONG_FORM else command words
+
+-- parts that were read, by what is wrong with them as a plan of the image
+abbrev pub as_plan : List Moved → Option PlanFault → Line
+as_plan parts None = Does (Given parts)
+as_plan parts (Some NoFunction) = Wrong NO_FUNCTION
+as_plan parts (Some _) = Wrong NOT_A_PLAN
+
+abbrev pub with_parts : Picture → Option (List Moved) → Line
+with_parts p (Some parts) = as_plan parts (plan_fault p parts)
+with_parts p None = Wrong BAD_NUMBER
+
+-- a plan by what stands behind the word `replace`: its form, then its numbers, then its functions, then its blocks
+unfoldable pub plan_line : Picture → List ℕ → Line
+plan_line p text = if is_plan text then with_parts p (parts_of text) else Wrong WRONG_FORM
 
 -- the empty line, and a comment, which begins with `#` (35)
 abbrev pub is_passed : List ℕ → Bool
 is_passed line = length line == 0 || slice_index_or line 0 0 == 35
 
--- Words are parted by one space (32), so two spaces have an empty word between them.
-unfoldable pub line_of : List ℕ → Line
-line_of line = if is_passed line then Passed else by_words (slice_split (λ b. b == 32) line)
+-- the line of a plan
+abbrev pub moves : List ℕ → Bool
+moves line = starts_with nat_eq line (codes "replace ")
+
+unfoldable pub line_of : Picture → List ℕ → Line
+line_of p line = if is_passed line then Passed else (if moves line then plan_line p (drop 7 line) else by_words (words line))

@@ -4,10 +4,11 @@ use Rattle.std.specs.List.{list_any, range_with_len}
 use Rattle.std.specs.Option.{option_map}
 use Rattle.texts.specs.Texts.{lines_of}
 use Rattle.sched_log.specs.Lines.{line_of}
-use Rattle.sched_log.specs.declared.fault.TheConstants.{NO_END, AFTER_END, PAST_LIMIT}
-use Rattle.sched_log.specs.declared.read.TheConstants.{COUNT_LIMIT}
+use Rattle.image.specs.Picture.{Picture}
+use Rattle.sched_log.specs.declared.fault.TheConstants.{WRONG_FORM, NO_END, AFTER_END, PAST_LIMIT}
+use Rattle.sched_log.specs.declared.read.TheConstants.{COUNT_LIMIT, PLAN_LIMIT}
 use Rattle.sched_log.specs.declared.event.Event.{Event}
-use Rattle.sched_log.specs.declared.event.Event.TheVariants.{Steps, Real, Till}
+use Rattle.sched_log.specs.declared.event.Event.TheVariants.{Steps, Real, Till, Given}
 use Rattle.sched_log.specs.declared.line.Line.{Line}
 use Rattle.sched_log.specs.declared.line.Line.TheVariants as line
 use Rattle.sched_log.specs.declared.fault.ScriptFault.{ScriptFault}
@@ -27,6 +28,12 @@ abbrev pub count : Event → ℕ
 count (Steps h n) = n
 count (Real h n) = n
 count (Till n) = n
+count (Given parts) = 0
+
+-- how many plans an event has
+abbrev pub plan_count : Event → ℕ
+plan_count (Given parts) = 1
+plan_count _ = 0
 
 abbrev pub event_of : Line → List Event
 event_of (line.Does e) = e ∷ []
@@ -35,6 +42,10 @@ event_of _ = []
 abbrev pub count_of : Line → ℕ
 count_of (line.Does e) = count e
 count_of _ = 0
+
+abbrev pub plans_of : Line → ℕ
+plans_of (line.Does e) = plan_count e
+plans_of _ = 0
 
 -- the fault that a line has by itself
 abbrev pub own_fault : Line → Option ℕ
@@ -50,10 +61,12 @@ first_of [] = None
 first_of (None ∷ rest) = first_of rest
 first_of (Some x ∷ rest) = Some x
 
--- the kind of a line's fault, where an end stands before it or not, and the counts up to it have this sum
-unfoldable pub kind_of : Bool → ℕ → Line → Option ℕ
-kind_of ended sum line = first_of (
+-- the kind of a line's fault, where an end stands before it or not, and there are so many plans up to it, and the counts up to
+-- it have this sum
+unfoldable pub kind_of : Bool → (plans sum : ℕ) → Line → Option ℕ
+kind_of ended plans sum line = first_of (
     own_fault line
+    ∷ when (nat_lt PLAN_LIMIT plans) WRONG_FORM
     ∷ when (ended && is_command line) AFTER_END
     ∷ when (nat_lt COUNT_LIMIT sum) PAST_LIMIT
     ∷ [])
@@ -61,7 +74,7 @@ kind_of ended sum line = first_of (
 -- the fault of the line at place i, counted from 0
 abbrev pub fault_at : List Line → ℕ → Option ScriptFault
 fault_at lines i = option_map (λ kind. fault.Line (i + 1) kind)
-    (kind_of (list_any is_end (take i lines)) (sum_by count_of (take (i + 1) lines)) (get_or lines i line.Passed))
+    (kind_of (list_any is_end (take i lines)) (sum_by plans_of (take (i + 1) lines)) (sum_by count_of (take (i + 1) lines)) (get_or lines i line.Passed))
 
 -- the want of an end, which counts as a fault behind the last line
 abbrev pub no_end : List Line → Option ScriptFault
@@ -71,11 +84,11 @@ no_end lines = when (not (list_any is_end lines)) (fault.Line (length lines + 1)
 abbrev pub fault_in : List Line → Option ScriptFault
 fault_in lines = first_of (map (fault_at lines) (range_with_len 0 (length lines)) ++ no_end lines ∷ [])
 
-unfoldable pub script : List ℕ → List Line
-script bytes = map line_of (lines_of bytes)
+unfoldable pub script : Picture → List ℕ → List Line
+script p bytes = map (line_of p) (lines_of bytes)
 
-unfoldable pub fault_of : List ℕ → Option ScriptFault
-fault_of bytes = fault_in (script bytes)
+unfoldable pub fault_of : Picture → List ℕ → Option ScriptFault
+fault_of p bytes = fault_in (script p bytes)
 
-unfoldable pub events_of : List ℕ → List Event
-events_of bytes = flat_map event_of (script bytes)
+unfoldable pub events_of : Picture → List ℕ → List Event
+events_of p bytes = flat_map event_of (script p bytes)

@@ -1,5 +1,7 @@
+use plans::plan::Plan;
+
 /// What a script asks of a run. Harts are numbered 0 to 63.
-#[derive(Clone, Copy, Debug, PartialEq, Eq)]
+#[derive(Debug, Drop)]
 pub enum Event {
     /// Hart `h` makes `n` steps.
     Steps { h: u32, n: u64 },
@@ -7,4 +9,6 @@ pub enum Event {
     Real { h: u32, n: u64 },
     /// `n` turns; in each the harts that are there at its start make one real step, in the order of their numbers.
     Till { n: u64 },
+    /// The functions of a plan move.
+    Given(Plan),
 }

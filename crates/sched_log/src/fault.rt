@@ -11,6 +11,12 @@ pub const WRONG_FORM: u8 = 1;
 /// The kind of a line with a number that can't be read or is out of its range.
 pub const BAD_NUMBER: u8 = 2;
 
+/// The kind of a line with a function's number that isn't there.
+pub const NO_FUNCTION: u8 = 3;
+
+/// The kind of a line that gives a function twice, or blocks in an order that is none of its function's.
+pub const NOT_A_PLAN: u8 = 4;
+
 /// The kind of a script without `end`.
 pub const NO_END: u8 = 5;
 

@@ -2,9 +2,11 @@
 #![tactic(auto)]
 
 pub mod event;
+pub mod facts;
 pub mod fault;
 pub mod line;
 mod parts;
+mod plan_line;
 pub mod read;
 #[cfg(test)]
 mod tests;

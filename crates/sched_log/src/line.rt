@@ -1,19 +1,25 @@
 //! One line by itself.
 
-ghost use Rattle.std.specs.Prelude.{◌≡◌, [], ◌∷◌};
-ghost use Rattle.sched_log.specs.Lines.{line_of, by_words, is_passed};
+ghost use Rattle.std.specs.Prelude.{◌≡◌, [], ◌∷◌, IfOk};
+ghost use Rattle.sched_log.specs.Plans.{words};
+ghost use Rattle.sched_log.specs.Lines.{line_of, by_words, is_passed, moves};
+ghost use Rattle.image.specs.Picture.{Picture};
 ghost use Rattle.sched_log.specs.Ranges.{HasRange};
 
 use crate::event::Event;
 use crate::fault::{BAD_NUMBER, WRONG_FORM};
 use crate::parts::cut;
+use crate::plan_line::plan_line;
+use image::picture::Image;
+use oc_base::fault::NoMemory;
+use std::alloc::Global;
 use texts::number_of;
 
 /// The greatest number of a hart.
 pub const LAST_HART: u32 = 63;
 
 /// What a line is by itself: passed over, an event, the end, or a fault of this kind.
-#[derive(Clone, Copy, Debug, PartialEq, Eq)]
+#[derive(Debug, Drop)]
 pub enum Line {
     Passed,
     Does(Event),
@@ -32,7 +38,7 @@ fn is_passed(line: &[u8]) -> bool
 #[tactic(auto, unfolding(crate::specs::Lines::command))]
 fn of_one(name: &[u8]) -> Line
     ensures is { result ≡ by_words (name.now ∷ []) }
-    ensures range { HasRange result }
+    ensures range { (p : Picture) → HasRange p result }
 {
     if name == b"end".as_slice() {
         return Line::End;
@@ -44,7 +50,7 @@ fn of_one(name: &[u8]) -> Line
 #[tactic(auto, unfolding(crate::specs::Lines::command))]
 fn of_two(name: &[u8], n: &[u8]) -> Line
     ensures is { result ≡ by_words (name.now ∷ n.now ∷ []) }
-    ensures range { HasRange result }
+    ensures range { (p : Picture) → HasRange p result }
 {
     if name != b"till".as_slice() || n.is_empty() {
         return Line::Wrong(WRONG_FORM);
@@ -59,7 +65,7 @@ fn of_two(name: &[u8], n: &[u8]) -> Line
 #[tactic(auto, unfolding(crate::specs::Lines::command))]
 fn of_three(name: &[u8], h: &[u8], n: &[u8]) -> Line
     ensures is { result ≡ by_words (name.now ∷ h.now ∷ n.now ∷ []) }
-    ensures range { HasRange result }
+    ensures range { (p : Picture) → HasRange p result }
 {
     let steps = name == b"steps".as_slice();
     if !steps && name != b"real".as_slice() || h.is_empty() || n.is_empty() {
@@ -78,15 +84,12 @@ fn of_three(name: &[u8], h: &[u8], n: &[u8]) -> Line
     Line::Does(Event::Real { h, n })
 }
 
-/// What a line is.
-#[tactic(auto, unfolding(crate::specs::Lines::line_of), using(crate::proofs::Words::too_many))]
-pub fn line_of(line: &[u8]) -> Line
-    ensures is { result ≡ line_of line.now }
-    ensures range { HasRange result }
+/// What a line of words is.
+#[tactic(auto, using(crate::proofs::Words::too_many))]
+fn words_line(line: &[u8]) -> Line
+    ensures is { result ≡ by_words (words line.now) }
+    ensures range { (p : Picture) → HasRange p result }
 {
-    if is_passed(line) {
-        return Line::Passed;
-    }
     let (name, rest) = cut(line, b' ');
     let Some(rest) = rest else {
         return of_one(name);
@@ -100,4 +103,26 @@ pub fn line_of(line: &[u8]) -> Line
         return Line::Wrong(WRONG_FORM);
     }
     of_three(name, first, second)
+}
+
+/// Whether a line gives a plan.
+fn moves(line: &[u8]) -> bool
+    ensures { result ≡ moves line.now }
+{
+    line.starts_with(b"replace ")
+}
+
+/// What a line is for an image.
+#[tactic(auto, unfolding(crate::specs::Lines::line_of))]
+pub fn line_of(alloc: Global, image: &Image, line: &[u8]) -> Result<Line, NoMemory>
+    ensures is { IfOk result (λ l. l ≡ line_of image.now line.now) }
+    ensures range { IfOk result (HasRange image.now) }
+{
+    if is_passed(line) {
+        return Ok(Line::Passed);
+    }
+    if moves(line) {
+        return plan_line(alloc, image, &line[7..]);
+    }
+    Ok(words_line(line))
 }

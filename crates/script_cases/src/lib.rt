@@ -1,0 +1,7 @@
+//! Tests of scripts: what they are read as for the image of a guest.
+#![tactic(auto)]
+
+#[cfg(test)]
+mod guests;
+#[cfg(test)]
+mod script_tests;
