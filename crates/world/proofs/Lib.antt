@@ -1,0 +1,11 @@
+pub mod WholeHops
+pub mod Following
+pub mod Lives
+pub mod Moving
+pub mod Placing
+pub mod Replacement
+pub mod Running
+pub mod Starting
+pub mod Stepping
+pub mod Telling
+pub mod ShortWords

@@ -1,0 +1,11 @@
+use Rattle.world.proofs.Following.{real_over, never_layout, real_follows}
+use Rattle.world.proofs.world.World.real_step.Goals as goal
+
+pub returns-clause-over : goal.returns-clause-over
+returns-clause-over c = real_over c.args.self.now c.args.h c.in-Ok.kind c.kept.ensures.code c.in-Ok.ensures.kind
+
+pub returns-clause-real : goal.returns-clause-real
+returns-clause-real c = never_layout c.args.self.now c.args.h c.in-Ok.kind c.kept.ensures.code c.in-Ok.ensures.kind
+
+pub returns-clause-follows : goal.returns-clause-follows
+returns-clause-follows c = real_follows c.args.self.now c.make_real_step.new.self c.args.h c.kept.ensures.system c.in-Ok.ensures.step

@@ -1,0 +1,4 @@
+pub mod Replacing
+pub mod Runs
+pub mod Told
+pub mod Worlds

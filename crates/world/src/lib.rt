@@ -1,0 +1,15 @@
+//! A machine whose code is moved while it runs.
+//!
+//! `specs/Worlds.antt` says what it is and keeps, what a step makes of it, and when it stands for a state of the original machine;
+//! `specs/Replacing.antt` what a replacement makes of it, and why one is refused; `specs/Runs.antt` what runs are, and which steps of
+//! the original machine they make.
+#![tactic(auto)]
+
+mod code;
+pub mod counts;
+pub mod laws;
+mod live;
+mod place;
+mod points;
+mod told;
+pub mod world;

@@ -1,0 +1,467 @@
+//! The machine whose code is moved, and its step.
+
+ghost use Rattle.std.specs.Prelude.{◌≡◌, ◌≢◌, ◌<◌, ◌↔◌, ℕ, [], length, replicate, true, None, IfOk, IfErr, OnOk, OnErr, is_some};
+ghost use Rattle.guest_sys.specs.Calls.{output};
+ghost use Rattle.guest_sys.specs.State.{IsOrderly};
+ghost use Rattle.machine.specs.Harts.{is_live, hart_in};
+ghost use Rattle.machine.specs.Start.{start_of};
+ghost use Rattle.machine.specs.States.{State};
+ghost use Rattle.machine.specs.Steps.{original_step, original_run};
+ghost use Rattle.plans.specs.Given.{plan_fault};
+ghost use Rattle.sim_laws.specs.Steps.{is_layout, original_after};
+ghost use Rattle.world.specs.Worlds.{IsSound, Related, started, kind_of, step_of};
+ghost use Rattle.world.specs.Runs.{moved, IsMoved, real_step_of, real_kind_of, real_steps_of};
+ghost use Rattle.world.specs.Replacing.{Refuses, IsPlacement, IsReplaced, refused_as, RefusedBy, Attempts};
+ghost use Rattle.world.specs.Told.{facts_of};
+
+use crate::code::{is_layout, is_over, kind_in, step_in};
+use crate::counts::{Counts, more};
+use crate::live::{add, aim};
+use crate::place::{Placement, is_no_memory, place};
+use crate::told::{changed_in, hart_facts, layout_facts, slots_in};
+use image::picture::Image;
+use layout::layout::Layout;
+use link_tags::value::Value;
+use machine::machine::Machine;
+use machine::outcome::Outcome;
+use oc_base::fault::NoMemory;
+use oc_base::items::Items;
+use patcher::text::TextNow;
+use plans::plan::Plan;
+use region::space::Region;
+use sched_log::facts::{Facts, Refusal, Refused};
+use sim_laws::stepped::Stepped;
+use std::alloc::Global;
+use std::marker::Model;
+
+/// A machine whose code is moved while it runs.
+#[derive(Drop)]
+pub struct World {
+    alloc: Global,
+    image: Image,
+    text: TextNow,
+    lives: Vec<Layout>,
+    numbers: Vec<u64>,
+    region: Region,
+    machine: Machine,
+    counts: Counts,
+    refusals: Vec<Refused>,
+}
+
+impl Model for World {
+    ghost use Rattle.std.specs.Prelude.{◌≡◌};
+    ghost use Rattle.std.specs.Coded.{codes};
+    ghost use Rattle.guest_mem.specs.Memory.{memory_code};
+    ghost use Rattle.world.specs.Worlds.{Replaced, IsSound};
+
+    ghost Value = { Replaced };
+
+    ghost coded = { Prim.hlevel (codes, memory_code) };
+
+    ghost view = { λ w. record {
+      image = w.image;
+      text = w.text;
+      lives = w.lives.items;
+      numbers = w.numbers.items;
+      free = w.region.free;
+      machine = w.machine;
+      counts = w.counts;
+      refusals = w.refusals.items;
+    } };
+
+    ghost invariant = { λ w. (w.region.all ≡ w.image.region) × IsSound w.image w.text w.lives.items w.numbers.items w.region.free };
+}
+
+impl World {
+    /// The world before its first step, with what the guest will read as its input: no layout is live, all of the region is free,
+    /// and the text is the image's.
+    pub fn start(alloc: Global, image: Image, input: Vec<u8>) -> Result<World, NoMemory>
+        ensures is { IfOk result (λ w. w ≡ started image input.items) }
+        ensures related { IfOk result (λ w. Related w (start_of image input.items)) }
+    {
+        image.kept();
+        World::make_start(alloc, image, input)
+    }
+
+    fn make_start(alloc: Global, image: Image, input: Vec<u8>) -> Result<World, NoMemory>
+        ensures { IfOk result (λ w. w ≡ started image input.items) }
+    {
+        image.kept();
+        let text = TextNow::of(alloc, &image)?;
+        let region = Region::new(alloc, image.region())?;
+        let machine = Machine::start(alloc, &image, input)?;
+        Ok(World {
+            alloc,
+            image,
+            text,
+            lives: Vec::new(alloc),
+            numbers: Vec::new(alloc),
+            region,
+            machine,
+            counts: Counts::zero(),
+            refusals: Vec::new(alloc),
+        })
+    }
+
+    /// What each world keeps, for a caller's proof. It does nothing.
+    pub fn kept(&self)
+        ensures code { IsSound self.now.image self.now.text self.now.lives self.now.numbers self.now.free }
+        ensures system { IsOrderly self.now.machine.system }
+    {
+        self.machine.orderly();
+    }
+
+    pub fn image(&self) -> &Image
+        ensures { result.now ≡ self.now.image }
+    {
+        &self.image
+    }
+
+    /// How the run ended, once it has.
+    pub fn outcome(&self) -> Option<Outcome>
+        ensures { result ≡ self.now.machine.outcome }
+    {
+        self.machine.outcome()
+    }
+
+    /// What the guest has written to output 1 or 2.
+    pub fn output(&self, k: u8) -> &[u8]
+        ensures { result.now ≡ output self.now.machine.system k }
+    {
+        self.machine.output(k)
+    }
+
+    /// How many harts were made. Their numbers are those below.
+    pub fn made(&self) -> u32
+        ensures system { result ≡ self.now.machine.system.made }
+        ensures harts { result ≡ length self.now.machine.harts }
+    {
+        self.machine.made()
+    }
+
+    /// Whether a hart is live. One that isn't made is not.
+    pub fn is_live(&self, h: u32) -> bool
+        ensures { result ≡ is_live (hart_in self.now.machine.harts h).status }
+    {
+        self.machine.is_live(h)
+    }
+
+    /// How many steps of the original machine were made.
+    pub fn real(&self) -> u64
+        ensures { result ≡ self.now.counts.real }
+    {
+        self.counts.real
+    }
+
+    /// How many attempts to replace code weren't refused.
+    pub fn done(&self) -> u64
+        ensures { result ≡ self.now.counts.done }
+    {
+        self.counts.done
+    }
+
+    /// How many layouts were given up: none.
+    pub fn retired(&self) -> u64
+        ensures { result ≡ 0 }
+    {
+        let _ = &self.counts;
+        0
+    }
+
+    /// How many layouts are live: none or one, since code is moved where none is.
+    pub fn live_layouts(&self) -> u32
+        ensures { (result ≡ 0) ↔ (self.now.lives ≡ []) }
+    {
+        if self.lives.is_empty() { 0 } else { 1 }
+    }
+
+    /// What a step of hart `h` would be.
+    fn kind(&self, h: u32) -> Stepped
+        ensures { result ≡ kind_of h self.now }
+    {
+        kind_in(&self.machine, &self.image, &self.lives, h)
+    }
+
+    /// Makes the step of hart `h`, which is of this kind.
+    #[tactic(auto, unfolding(crate::specs::Worlds::step_of))]
+    fn make_step(&mut self, h: u32, kind: Stepped) -> Result<(), NoMemory>
+        requires { kind ≡ kind_of h self.old }
+        ensures ok { OnOk result (self.new ≡ step_of h self.old) }
+        ensures err { OnErr result (self.new ≡ self.old) }
+    {
+        let Ok(()) = step_in(&mut self.machine, &self.image, &self.text, &self.lives, h) else {
+            return Err(NoMemory);
+        };
+        self.counts.count(kind);
+        Ok(())
+    }
+
+    /// One step of hart `h`, and what it was. After want of memory all is as before.
+    fn one_step(&mut self, h: u32) -> Result<Stepped, NoMemory>
+        ensures kind { IfOk result (λ kind. kind ≡ kind_of h self.old) }
+        ensures step { OnOk result (self.new ≡ step_of h self.old) }
+        ensures err { OnErr result (self.new ≡ self.old) }
+    {
+        let kind = self.kind(h);
+        let Ok(()) = self.make_step(h, kind) else {
+            return Err(NoMemory);
+        };
+        Ok(kind)
+    }
+
+    /// One step of hart `h`: one of the original machine, or one of layouts alone. A hart that waits, has ended or isn't made makes an
+    /// idle one, which is real. After want of memory all is as before.
+    ///
+    /// Whatever state of the original machine the world stands for, it stands for the one that the original machine comes to by then.
+    pub fn step(&mut self, h: u32) -> Result<Stepped, NoMemory>
+        ensures kind { IfOk result (λ kind. kind ≡ kind_of h self.old) }
+        ensures step { OnOk result (self.new ≡ step_of h self.old) }
+        ensures err { OnErr result (self.new ≡ self.old) }
+        ensures over { IfOk result (λ kind. (kind ≡ Stepped.Over) ↔ (is_some self.old.machine.outcome ≡ true)) }
+        ensures follows { IfOk result (λ kind. (o : State) → Related self.old o → Related self.new (original_after kind self.old.image h o)) }
+    {
+        self.kept();
+        let Ok(kind) = self.one_step(h) else {
+            return Err(NoMemory);
+        };
+        Ok(kind)
+    }
+
+    /// Steps of hart `h` up to one that isn't one of layouts alone, and what that is. After want of memory some of the layouts' steps
+    /// stand.
+    fn steps_to_real(&mut self, h: u32) -> Result<Stepped, NoMemory>
+        ensures kind { IfOk result (λ kind. kind ≡ real_kind_of h self.old) }
+        ensures step { OnOk result (self.new ≡ real_step_of h self.old) }
+        ensures err { OnErr result (IsMoved h self.old self.new) }
+    {
+        self.kept();
+        let Ok(first) = self.one_step(h) else {
+            return Err(NoMemory);
+        };
+        if !is_layout(first) {
+            return Ok(first);
+        }
+        let Ok(second) = self.one_step(h) else {
+            return Err(NoMemory);
+        };
+        if !is_layout(second) {
+            return Ok(second);
+        }
+        let Ok(third) = self.one_step(h) else {
+            return Err(NoMemory);
+        };
+        Ok(third)
+    }
+
+    /// The same where a step of layouts alone comes first. After want of memory all is as before.
+    #[inline(never)]
+    fn past_layout(&mut self, h: u32) -> Result<Stepped, NoMemory>
+        requires { is_layout (kind_of h self.old) ≡ true }
+        ensures kind { IfOk result (λ kind. kind ≡ real_kind_of h self.old) }
+        ensures step { OnOk result (self.new ≡ real_step_of h self.old) }
+        ensures err { OnErr result (self.new ≡ self.old) }
+    {
+        let (regs, pc) = self.place(h);
+        let counts = self.counts;
+        let Ok(kind) = self.steps_to_real(h) else {
+            self.put_back(h, regs, pc, counts);
+            return Err(NoMemory);
+        };
+        Ok(kind)
+    }
+
+    /// The registers and the pc of a live hart.
+    #[tactic(auto, using(machine::proofs::HartLists::live_made))]
+    fn place(&self, h: u32) -> ([Value; 32], u64)
+        requires { is_live (hart_in self.now.machine.harts h).status ≡ true }
+        ensures regs { result.0 ≡ (hart_in self.now.machine.harts h).regs }
+        ensures pc { result.1 ≡ (hart_in self.now.machine.harts h).pc }
+    {
+        let hart = self.machine.hart(h);
+        (hart.regs, hart.pc)
+    }
+
+    /// Gives a hart and the counts what they were.
+    fn put_back(&mut self, h: u32, regs: [Value; 32], pc: u64, counts: Counts)
+        requires { h < length self.old.machine.harts }
+        ensures { self.new ≡ moved h regs pc counts self.old }
+    {
+        self.machine.set_hart(h, regs, pc);
+        self.counts = counts;
+    }
+
+    fn make_real_step(&mut self, h: u32) -> Result<Stepped, NoMemory>
+        ensures kind { IfOk result (λ kind. kind ≡ real_kind_of h self.old) }
+        ensures step { OnOk result (self.new ≡ real_step_of h self.old) }
+        ensures err { OnErr result (self.new ≡ self.old) }
+    {
+        let kind = self.kind(h);
+        if is_layout(kind) {
+            return self.past_layout(h);
+        }
+        let Ok(()) = self.make_step(h, kind) else {
+            return Err(NoMemory);
+        };
+        Ok(kind)
+    }
+
+    /// One real step of hart `h`, and the steps of layouts before it, of which there are never more than two. After want of memory all
+    /// is as before.
+    pub fn real_step(&mut self, h: u32) -> Result<Stepped, NoMemory>
+        ensures kind { IfOk result (λ kind. kind ≡ real_kind_of h self.old) }
+        ensures step { OnOk result (self.new ≡ real_step_of h self.old) }
+        ensures err { OnErr result (self.new ≡ self.old) }
+        ensures over { IfOk result (λ kind. (kind ≡ Stepped.Over) ↔ (is_some self.old.machine.outcome ≡ true)) }
+        ensures real { IfOk result (λ kind. kind ≢ Stepped.Layout) }
+        ensures follows { OnOk result ((o : State) → Related self.old o → Related self.new (original_step self.old.image h o)) }
+    {
+        self.kept();
+        let Ok(kind) = self.make_real_step(h) else {
+            return Err(NoMemory);
+        };
+        Ok(kind)
+    }
+
+    /// So many real steps of hart `h`. After want of memory some of them are made.
+    pub fn run(&mut self, h: u32, steps: u64) -> Result<(), NoMemory>
+        ensures ok { OnOk result (self.new ≡ real_steps_of steps h self.old) }
+        ensures err { OnErr result ((n : ℕ) × (n < steps) × (self.new ≡ real_steps_of n h self.old)) }
+        ensures follows { OnOk result ((o : State) → Related self.old o → Related self.new (original_run self.old.image (replicate steps h) o)) }
+    {
+        self.kept();
+        self.make_run(h, steps)
+    }
+
+    fn make_run(&mut self, h: u32, steps: u64) -> Result<(), NoMemory>
+        ensures ok { OnOk result (self.new ≡ real_steps_of steps h self.old) }
+        ensures err { OnErr result ((n : ℕ) × (n < steps) × (self.new ≡ real_steps_of n h self.old)) }
+    {
+        for _step in 0..steps {
+            self.kept();
+            let Ok(kind) = self.make_real_step(h) else {
+                return Err(NoMemory);
+            };
+            if is_over(kind) {
+                return Ok(());
+            }
+        }
+        Ok(())
+    }
+
+    /// What a replacement makes, or the first cause to refuse it.
+    fn work_out(&self, plan: &Plan) -> Result<Placement, Refusal>
+        requires { plan_fault self.now.image plan.now ≡ None }
+        ensures is { IfOk result (λ q. IsPlacement self.now.image self.now.lives self.now.free plan.now q.layout q.patches) }
+        ensures refused { IfErr result (Refuses self.now.image self.now.lives self.now.free plan.now) }
+    {
+        place(self.alloc, &self.image, &self.region, &self.lives, plan)
+    }
+
+    /// Makes what was worked out.
+    fn put(&mut self, plan: &Plan, placement: Placement) -> Result<(), NoMemory>
+        requires placement { IsPlacement self.old.image self.old.lives self.old.free plan.now placement.layout placement.patches }
+        requires none { self.old.lives ≡ [] }
+        ensures ok { OnOk result (IsReplaced plan.now self.old self.new) }
+        ensures err { OnErr result (self.new ≡ self.old) }
+    {
+        let _ = plan;
+        self.region.reserve(1)?;
+        self.lives.reserve(1)?;
+        self.numbers.reserve(1)?;
+        let Placement { layout, patches } = placement;
+        aim(patches, &mut self.text, &mut self.lives);
+        add(
+            &mut self.lives,
+            &mut self.numbers,
+            &mut self.region,
+            &mut self.counts,
+            layout,
+        );
+        self.counts.finish();
+        Ok(())
+    }
+
+    /// Counts a refused attempt and keeps its cause.
+    fn keep(&mut self, why: Refusal) -> Result<(), NoMemory>
+        ensures ok { OnOk result (self.new ≡ refused_as why self.old) }
+        ensures err { OnErr result (self.new ≡ self.old) }
+    {
+        self.refusals.push(Refused {
+            attempt: more(self.counts.attempts),
+            refusal: why,
+        })?;
+        self.counts.attempt();
+        Ok(())
+    }
+
+    /// Answers a refused attempt.
+    fn refuse(&mut self, why: Refusal) -> Result<(), Refusal>
+        ensures { RefusedBy why self.old result self.new }
+    {
+        if is_no_memory(&why) {
+            return Err(Refusal::NoMemory);
+        }
+        let Ok(()) = self.keep(why) else {
+            return Err(Refusal::NoMemory);
+        };
+        Err(why)
+    }
+
+    fn make_replace(&mut self, plan: &Plan) -> Result<(), Refusal>
+        requires plan { plan_fault self.old.image plan.now ≡ None }
+        requires none { self.old.lives ≡ [] }
+        ensures { Attempts plan.now self.old (is_some self.old.machine.outcome) result self.new }
+    {
+        if self.outcome().is_some() {
+            return Ok(());
+        }
+        let placement = match self.work_out(plan) {
+            Ok(placement) => placement,
+            Err(why) => return self.refuse(why),
+        };
+        let Ok(()) = self.put(plan, placement) else {
+            return Err(Refusal::NoMemory);
+        };
+        Ok(())
+    }
+
+    /// Makes the layout of a plan, at the least address that fits, and sends every call of the text to it; a plan that moves no function
+    /// sends them all back to original code. A refused attempt is counted and kept, and nothing else is changed. Want of memory changes
+    /// nothing and isn't counted. After the run's end nothing is changed, and the answer is Ok.
+    ///
+    /// Whatever state of the original machine the world stands for, it goes on to stand for it.
+    pub fn replace(&mut self, plan: &Plan) -> Result<(), Refusal>
+        requires plan { plan_fault self.old.image plan.now ≡ None }
+        requires none { self.old.lives ≡ [] }
+        ensures is { Attempts plan.now self.old (is_some self.old.machine.outcome) result self.new }
+        ensures related { (o : State) → Related self.old o → Related self.new o }
+    {
+        let result = self.make_replace(plan);
+        self.kept();
+        result
+    }
+
+    /// The counts, what was refused, and what stands now.
+    pub fn facts(&self, alloc: Global) -> Result<Facts, NoMemory>
+        ensures { IfOk result (λ f. f ≡ facts_of self.now) }
+    {
+        let region = self.image.region();
+        let links = self.machine.links(alloc)?;
+        let refusals = Vec::from_slice(alloc, &self.refusals)?;
+        let layouts = layout_facts(alloc, &self.numbers, &self.lives)?;
+        let harts = hart_facts(alloc, &self.machine, &self.lives, region)?;
+        Ok(Facts {
+            real: self.counts.real,
+            layout: self.counts.layout,
+            snaps: 0,
+            attempts: self.counts.attempts,
+            done: self.counts.done,
+            retired: 0,
+            refusals: Items::from_vec(refusals),
+            sites: changed_in(&self.image, &self.text),
+            slots: slots_in(region, &links, self.image.slots()),
+            layouts: Items::from_vec(layouts),
+            harts: Items::from_vec(harts),
+        })
+    }
+}

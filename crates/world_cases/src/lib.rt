@@ -1,0 +1,9 @@
+//! Tests of worlds: guests as text, whose code is moved while they run.
+#![tactic(auto)]
+
+#[cfg(test)]
+mod guests;
+#[cfg(test)]
+mod replacement_tests;
+#[cfg(test)]
+mod telling;
