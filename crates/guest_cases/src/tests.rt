@@ -3,6 +3,7 @@
 use guest_gen::call::make;
 use oc_base::memory::{MemFiles, MemSink, MemSource};
 use play::call::play;
+use report::answer::Answer;
 use std::alloc::Global;
 use std::process::Abort;
 use std::test::Fail;
@@ -43,6 +44,34 @@ fn with_newlines(alloc: Global, text: &str) -> Result<Vec<u8>, Fail> {
     }
     Ok(bytes)
 }
+
+// Runs of guests whose code is moved: each one's name, its words beside those of the program and the script, its script before the
+// `end`, its status, its report, its last line, and its text.
+const MOVED: &str = "\
+three blocks turned round||real 0 4/replace 1:2 1 0/till 100|28|real 20 layout 3/snaps 0 attempts 1 done 1 refused 0 retired 0/sites 2 slots 0/layout 1 0x12000 9/hart 0 ended/|exit 28|.func main; jal x1,work; jal x1,work; addi x17,x0,93; ecall; .end/.func work; addi x5,x0,2; top: addi x5,x5,-1; bne x5,x0,top; auipc x6,0; andi x10,x6,63; ret; .end
+stands between two words of one||real 0 4/replace 1:2 1 0/real 0 11/steps 0 2|115|real 15 layout 3/snaps 0 attempts 1 done 1 refused 0 retired 0/sites 2 slots 0/layout 1 0x12000 9/hart 0 live 0x1001c 0x12004/|unfinished|.func main; jal x1,work; jal x1,work; addi x17,x0,93; ecall; .end/.func work; addi x5,x0,2; top: addi x5,x5,-1; bne x5,x0,top; auipc x6,0; andi x10,x6,63; ret; .end
+calls in the last word||replace 2:0; 0:0/till 10|118|real 4 layout 1/snaps 0 attempts 1 done 1 refused 0 retired 0/sites 2 slots 0/layout 1 0x12000 3/hart 0 live 0x1000c 0x1000c/|trap 1 at 0x1000c value 0x1000c|.func leaf; ret; .end; .func start; jal x1,main; .end/.func main; jal x1,leaf; .end; .entry start
+calls in the last word, unmoved||till 10|118|real 4 layout 0/snaps 0 attempts 0 done 0 refused 0 retired 0/sites 0 slots 0/hart 0 live 0x1000c 0x1000c/|trap 1 at 0x1000c value 0x1000c|.func leaf; ret; .end; .func start; jal x1,main; .end/.func main; jal x1,leaf; .end; .entry start
+reads a byte of a link||replace 1:0/till 100|8|real 8 layout 0/snaps 0 attempts 1 done 1 refused 0 retired 0/sites 1 slots 0/layout 1 0x12000 2/hart 0 ended/|exit 8|.func start; jal x1,mid; .end; .func mid; jal x1,leaf; .end/.func leaf; sd x1,-8(x2); sb x0,-7(x2); ld x5,-8(x2); andi x10,x5,255; addi x17,x0,93; ecall; .end
+adds a link||replace 1:0/till 10|119|real 2 layout 0/snaps 0 attempts 1 done 1 refused 0 retired 0/sites 1 slots 0/layout 1 0x12000 2/hart 0 live 0x10004 0x12000/|link use 1 at 0x10004|.func main; jal x1,f; .end; .func f; add x6,x1,x1; .end
+adds a link, unmoved||till 100|119|real 2 layout 0/snaps 0 attempts 0 done 0 refused 0 retired 0/sites 0 slots 0/hart 0 live 0x10004 0x10004/|link use 1 at 0x10004|.func main; jal x1,f; .end; .func f; add x6,x1,x1; .end
+jumps past a link||till 100|119|real 2 layout 0/snaps 0 attempts 0 done 0 refused 0 retired 0/sites 0 slots 0/hart 0 live 0x10004 0x10004/|link use 6 at 0x10004|.func main; jal x1,f; .end; .func f; jalr x0,4(x1); .end
+jumps into the region||till 100|118|real 2 layout 0/snaps 0 attempts 0 done 0 refused 0 retired 0/sites 0 slots 0/hart 0 live 0x10004 0x10004/|trap 1 at 0x10004 value 0x12000|.func main; lui x5,18; jalr x0,0(x5); .end
+jumps into a far call||till 100|114|real 2 layout 0/snaps 0 attempts 0 done 0 refused 0 retired 0/sites 0 slots 0/hart 0 live 0x10004 0x10004/|landing at 0x10010|.func main; lui x5,16; jalr x0,16(x5); nop; call leaf; .end/.func leaf; ret; .end
+a branch that is short||replace 0:0 1 2/till 10|0|real 3 layout 0/snaps 0 attempts 1 done 1 refused 0 retired 0/sites 0 slots 0/layout 1 0x12000 1025/hart 0 ended/|exit 0|.func main; addi x17,x0,93; beq x0,x0,far; .nops 1021; far: ecall; .end
+a branch that is long||replace 0:0 1 2/till 10|0|real 3 layout 0/snaps 0 attempts 1 done 1 refused 0 retired 0/sites 0 slots 0/layout 1 0x13000 1027/hart 0 ended/|exit 0|.func main; addi x17,x0,93; beq x0,x0,far; .nops 1022; far: ecall; .end
+a region that is too small|--region,0x20000:4096|replace 0:0 1 2/till 10|0|real 3 layout 0/snaps 0 attempts 1 done 0 refused 1 retired 0/refusal 1 region 4100 4096/sites 0 slots 0/hart 0 ended/|exit 0|.func main; addi x17,x0,93; beq x0,x0,far; .nops 1021; far: ecall; .end
+a region that is full|--region,0x20000:4096|replace 0:0 1 2/till 10|0|real 3 layout 0/snaps 0 attempts 1 done 1 refused 0 retired 0/sites 0 slots 0/layout 1 0x20000 1024/hart 0 ended/|exit 0|.func main; addi x17,x0,93; beq x0,x0,far; .nops 1020; far: ecall; .end
+a region out of reach|--region,0x200000:4096|replace 1:0 1 2/till 100|28|real 20 layout 0/snaps 0 attempts 1 done 0 refused 1 retired 0/refusal 1 reach 0x10000 0x200000/sites 0 slots 0/hart 0 ended/|exit 28|.func main; jal x1,work; jal x1,work; addi x17,x0,93; ecall; .end/.func work; addi x5,x0,2; top: addi x5,x5,-1; bne x5,x0,top; auipc x6,0; andi x10,x6,63; ret; .end
+a function of no instruction||replace 1:0/till 100|0|real 2 layout 0/snaps 0 attempts 1 done 0 refused 1 retired 0/refusal 1 unreadable 1 1 0x10008/sites 0 slots 0/hart 0 ended/|exit 0|.func main; addi x17,x0,93; ecall; .end; .func bad; .word 0; .end
+a call in reach before one that isn't|--region,0x1000:4096|replace 1:0|115|real 0 layout 0/snaps 0 attempts 1 done 0 refused 1 retired 0/refusal 1 reach 0x196a08 0x1000/sites 0 slots 0/hart 0 live 0x10000 0x10000/|unfinished|.func a; jal x1,f; .nops 200000; .end; .func f; ret; .end; .func b; .nops 200000; jal x1,f; .end";
+
+// Scripts with a fault for a guest of one function: the script before the `end`, and its line and fault.
+const SCRIPT_FAULTS: &str = "\
+replace 9:0|1 fault 3
+replace 0:1|1 fault 4
+replace 0:0;1:0|1 fault 1
+replace 0:0/replace 0:0|2 fault 1";
 
 fn words(alloc: Global, first: &str, second: &str) -> Result<Vec<String>, Fail> {
     let mut words = Vec::new(alloc);
@@ -120,6 +149,92 @@ fn check(rt: &(impl Abort + AllocGlobal), row: &str) -> Result<(), Fail> {
 fn a_guest_that_is_assembled_runs_to_its_end(rt: HostRuntime) -> Result<(), Fail> {
     for row in RUNS.lines() {
         check(&rt, row)?;
+    }
+    Ok(())
+}
+
+// A call on an assembled guest, with more words: its answer, and what is on its outputs.
+fn call(
+    rt: &(impl Abort + AllocGlobal),
+    more: &[&str],
+    script: &str,
+    text: &str,
+) -> Result<(Answer, Vec<u8>), Fail> {
+    let alloc = rt.alloc();
+    let mut files = assembled(rt, script, text)?;
+    let mut words = words(alloc, "guest.elf", "script")?;
+    for word in more {
+        words.push(String::from_str(alloc, word)?)?;
+    }
+    let mut input = MemSource::new(Vec::new(alloc), Vec::new(alloc));
+    let mut out = MemSink::new(Vec::new(alloc), Vec::new(alloc));
+    let mut err = MemSink::new(Vec::new(alloc), Vec::new(alloc));
+    let answer = play(alloc, &words, &mut files, &mut input, &mut out, &mut err);
+    let written = err.held().to_vec(alloc)?;
+    Ok((answer, written))
+}
+
+fn more_words<'a>(alloc: Global, words: &'a str) -> Result<Vec<&'a str>, Fail> {
+    let mut list = Vec::new(alloc);
+    if !words.is_empty() {
+        for word in words.split(',') {
+            list.push(word)?;
+        }
+    }
+    Ok(list)
+}
+
+// The report is answered whether it is written or not.
+fn check_moved(rt: &(impl Abort + AllocGlobal), row: &str) -> Result<(), Fail> {
+    let alloc = rt.alloc();
+    let mut fields = row.splitn(7, '|');
+    let _name = fields.next();
+    let mut more = more_words(alloc, fields.next().unwrap_or(""))?;
+    let script = fields.next().unwrap_or("");
+    let status: u8 = fields.next().unwrap_or("").parse().unwrap_or(0);
+    let report = with_newlines(alloc, fields.next().unwrap_or(""))?;
+    let line = fields.next().unwrap_or("");
+    let last = format!(in alloc; "ocolos: {line}\n")?;
+    let text = fields.next().unwrap_or("");
+    let (answer, written) = call(rt, &more, script, text)?;
+    assert_eq!(rt; answer.status, status, "{row}");
+    assert_eq!(rt; answer.report.as_slice(), report.as_slice(), "{row}");
+    assert_eq!(rt; written.as_slice(), last.as_bytes(), "{row}");
+    more.push("--report")?;
+    let (answer, written) = call(rt, &more, script, text)?;
+    let mut whole = report.as_slice().to_vec(alloc)?;
+    whole.extend_from_slice(last.as_bytes())?;
+    assert_eq!(rt; answer.report.as_slice(), report.as_slice(), "{row}");
+    assert_eq!(rt; written.as_slice(), whole.as_slice(), "{row}");
+    Ok(())
+}
+
+#[test]
+fn a_guest_whose_code_moves_ends_as_before(rt: HostRuntime) -> Result<(), Fail> {
+    for row in MOVED.lines() {
+        check_moved(&rt, row)?;
+    }
+    Ok(())
+}
+
+fn check_fault(rt: &(impl Abort + AllocGlobal), row: &str) -> Result<(), Fail> {
+    let alloc = rt.alloc();
+    let mut fields = row.split('|');
+    let script = fields.next().unwrap_or("");
+    let line = fields.next().unwrap_or("");
+    let last = format!(in alloc; "ocolos: script line {line}\n")?;
+    let text = ".func main; addi x17,x0,93; ecall; .end";
+    let (answer, written) = call(rt, &[], script, text)?;
+    assert_eq!(rt; answer.status, 124, "{row}");
+    assert!(rt; answer.report.as_slice().is_empty(), "{row}");
+    assert_eq!(rt; written.as_slice(), last.as_bytes(), "{row}");
+    Ok(())
+}
+
+#[test]
+fn a_plan_is_one_of_the_guest(rt: HostRuntime) -> Result<(), Fail> {
+    for row in SCRIPT_FAULTS.lines() {
+        check_fault(&rt, row)?;
     }
     Ok(())
 }

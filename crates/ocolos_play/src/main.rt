@@ -1,4 +1,4 @@
-//! Runs a program under a script and writes what the run delivers: `ocolos_play PROGRAM SCRIPT`.
+//! Runs a program under a script and writes what the run delivers: `ocolos_play PROGRAM SCRIPT`, with `--region BASE:SIZE` and `--report`.
 #![tactic(auto)]
 
 use oc_base::real::{RealFiles, StdSink, StdSource};

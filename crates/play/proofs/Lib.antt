@@ -1,4 +1,13 @@
+pub mod Attempted
 pub mod Decided
+pub mod Laws
 pub mod OneDecision
-pub mod Turns
+pub mod OneReplacement
+pub mod OneText
+pub mod OneWord
+pub mod Originally
+pub mod ReadyNext
+pub mod Running
+pub mod Whole
+pub mod WorldLaws
 pub mod Written

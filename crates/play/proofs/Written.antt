@@ -6,9 +6,9 @@ use Rattle.report.specs.declared.answer.Ended.{Ended}
 use Rattle.report.specs.declared.answer.Ended.TheVariants.{Ran, Usage, ReadFault, TooLong, Program, Script, WriteFault, NoMemory}
 use Rattle.report.specs.declared.writing.Writing.{Writing}
 use Rattle.report.specs.declared.writing.Delivery.{Delivery}
-use Rattle.report.specs.Cause.{ended_of, writing_of, Wrote, AllWritten, Settles}
+use Rattle.report.specs.Cause.{ended_of, writing_of, reported, Wrote, AllWritten, Settles}
 use Rattle.play.specs.Decision.{Decides}
-use Rattle.play.specs.Causes.{Read, Decided, AsksFor, AllDone}
+use Rattle.play.specs.Causes.{Read, Decided, AsksFor, AllDone, Unreported}
 use Rattle.play.proofs.Decided.{decides-usage}
 
 -- devices that told
@@ -55,11 +55,11 @@ module _ (words : List (List ℕ)) (r : Read) (disk : Disk) (all : List ℕ) (te
   decided_ran (Err NoMemory) outcome why ran = cc
 
   -- the decision d was laid out as this writing, and written so
-  module _ (d : Result Delivery Ended) (writing : Writing) (o o' e e' : Option (List ℕ)) (of ef : Type 0) (answer : Ended)
-      (why : Decided words r d) (laid : writing ≡ writing_of d) where
+  module _ (d : Result Delivery Ended) (writing : Writing) (o o' e e' : Option (List ℕ)) (of ef : Type 0) (answer : Ended) (report : List ℕ)
+      (why : Decided words r d) (laid : writing ≡ writing_of d) (told : report ≡ reported writing answer) where
     -- what was decided as it is asked for, and written whole, is all that is asked for
-    done : Decides words disk all d → AllWritten writing o o' e e' answer → AllDone words disk all o o' e e' answer
-    done decides written = record { decision = d; decided = decides; written = subst (λ w. AllWritten w o o' e e' answer) laid written }
+    done : Decides words disk all d → AllWritten writing o o' e e' answer → AllDone words disk all o o' e e' answer report
+    done decides written = record { decision = d; decided = decides; written = subst (λ w. AllWritten w o o' e e' answer) laid written; told = told ∙ ap (λ w. reported w answer) laid }
 
     -- what was answered after the writing is asked for, but for a fault and for want of memory
     pub written_settles : Wrote writing o o' e e' of ef answer → Settles (AsksFor words disk all) answer
@@ -68,15 +68,26 @@ module _ (words : List (List ℕ)) (r : Read) (disk : Disk) (all : List ℕ) (te
     written_settles (inr (inr failed)) = subst (Settles (AsksFor words disk all)) (sym failed.ended) tt
 
     -- with no fault and with memory all that is asked for is written
-    pub written_whole : Wrote writing o o' e e' of ef answer → (Rose r.takes_before r.takes_now → ⊥) → (Rose r.reads_before r.reads_now → ⊥) → (of → ⊥) → (ef → ⊥) → d ≢ Err NoMemory → AllDone words disk all o o' e e' answer
+    pub written_whole : Wrote writing o o' e e' of ef answer → (Rose r.takes_before r.takes_now → ⊥) → (Rose r.reads_before r.reads_now → ⊥) → (of → ⊥) → (ef → ⊥) → d ≢ Err NoMemory → AllDone words disk all o o' e e' answer report
     written_whole (inl written) quiet quiet' quiet_out quiet_err memory = done (decided_whole d why quiet quiet' memory) written
     written_whole (inr (inl failed)) quiet quiet' quiet_out quiet_err memory = absurd (quiet_out failed.failed)
     written_whole (inr (inr failed)) quiet quiet' quiet_out quiet_err memory = absurd (quiet_err failed.failed)
 
     -- and where a run is answered, all of it is written
-    pub written_ran : (outcome : Outcome) → Wrote writing o o' e e' of ef answer → answer ≡ Ran outcome → AllDone words disk all o o' e e' answer
+    pub written_ran : (outcome : Outcome) → Wrote writing o o' e e' of ef answer → answer ≡ Ran outcome → AllDone words disk all o o' e e' answer report
     written_ran outcome (inl written) ran =
         let is : ended_of d ≡ Ran outcome = sym (ap (λ (w : Writing). w.ended) laid) ∙ sym written.ended ∙ ran in
         done (decided_ran d outcome why is) written
     written_ran outcome (inr (inl failed)) ran = let x : WriteFault ≡ Ran outcome = sym failed.ended ∙ ran in cc
     written_ran outcome (inr (inr failed)) ran = let x : WriteFault ≡ Ran outcome = sym failed.ended ∙ ran in cc
+
+-- an answer that is no run has no report
+pub unreported : (writing : Writing) (answer : Ended) (report : List ℕ) → report ≡ reported writing answer → Unreported answer report
+unreported writing (Ran outcome) report told = tt
+unreported writing Usage report told = told
+unreported writing (ReadFault name) report told = told
+unreported writing (TooLong name) report told = told
+unreported writing (Program fault) report told = told
+unreported writing (Script fault) report told = told
+unreported writing WriteFault report told = told
+unreported writing NoMemory report told = told

@@ -1,11 +1,11 @@
 -- Why a call decided as it did, and what its words, its files and its input ask for.
-use Rattle.std.specs.Prelude.{◌≡◌, ◌⊎◌, ℕ, List, Option, Result, Err}
+use Rattle.std.specs.Prelude.{◌≡◌, ◌⊎◌, ℕ, List, [], Option, Result, Err}
 use Rattle.std.specs.Option.{ForSome}
 use Rattle.oc_base.specs.Outside.{Disk, TakeFailed}
 use Rattle.report.specs.declared.answer.Ended.{Ended}
-use Rattle.report.specs.declared.answer.Ended.TheVariants.{Usage}
+use Rattle.report.specs.declared.answer.Ended.TheVariants.{Ran, Usage}
 use Rattle.report.specs.declared.writing.Delivery.{Delivery}
-use Rattle.report.specs.Cause.{Because, ended_of, writing_of, AllWritten}
+use Rattle.report.specs.Cause.{Because, ended_of, writing_of, reported, AllWritten}
 use Rattle.report.specs.Reading.{InputFailed}
 use Rattle.play.specs.Decision.{form_of, Decides}
 
@@ -38,8 +38,14 @@ pub record AsksFor (words : List (List ℕ)) (disk : Disk) (input : List ℕ) (a
   pub decided : Decides words disk input decision
   pub ended : ended_of decision ≡ answer
 
--- What they ask for was written, all of it.
-pub record AllDone (words : List (List ℕ)) (disk : Disk) (input : List ℕ) (out_was out_now err_was err_now : Option (List ℕ)) (answer : Ended) : Type 0 where
+-- What they ask for was written, all of it, and the report of the run is answered.
+pub record AllDone (words : List (List ℕ)) (disk : Disk) (input : List ℕ) (out_was out_now err_was err_now : Option (List ℕ)) (answer : Ended) (report : List ℕ) : Type 0 where
   pub decision : Result Delivery Ended
   pub decided : Decides words disk input decision
   pub written : AllWritten (writing_of decision) out_was out_now err_was err_now answer
+  pub told : report ≡ reported (writing_of decision) answer
+
+-- where no run is answered, no report is
+abbrev pub Unreported : Ended → List ℕ → Type 0
+Unreported (Ran outcome) report = Unit {0}
+Unreported _ report = report ≡ []

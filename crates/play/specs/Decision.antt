@@ -1,16 +1,17 @@
 -- What a call decides from its words, its files and its input: the first refusal that holds, or what the run delivers.
-use Rattle.std.specs.Prelude.{◌≡◌, ℕ, List, [], ◌∷◌, ◌++◌, length, ◌-◌, slice_index, ◌==◌, Option, Some, None, Result, Ok, Err, if◌then◌else◌}
+use Rattle.std.specs.Prelude.{◌≡◌, ℕ, Bool, List, [], ◌∷◌, ◌++◌, length, ◌-◌, slice_index, ◌==◌, Option, Some, None, Result, Ok, Err, if◌then◌else◌}
 use Rattle.oc_base.specs.Outside.{Disk}
 use Rattle.oc_base.specs.declared.range.Range.{Range}
-use Rattle.image.specs.Picture.{Picture}
-use Rattle.elf_read.specs.declared.elf.Elf.{Elf}
+use Rattle.image.specs.Picture.{Picture, IsKept}
 use Rattle.elf_read.specs.Faults as elf
 use Rattle.elf_read.specs.Parts.{parts_of}
 use Rattle.relocs.specs.Built as built
 use Rattle.relocs.specs.Regions as regions
 use Rattle.sched_log.specs.Script as script
+use Rattle.sched_log.specs.Ranges.{AreInRange}
 use Rattle.sched_log.specs.declared.event.Event.{Event}
 use Rattle.sched_log.specs.declared.fault.ScriptFault.{ScriptFault}
+use Rattle.report.specs.Text.{report_of}
 use Rattle.report.specs.declared.answer.Ended.{Ended}
 use Rattle.report.specs.declared.answer.Ended.TheVariants.{Usage, Program, Script}
 use Rattle.report.specs.declared.answer.ProgramFault.{ProgramFault}
@@ -19,9 +20,12 @@ use Rattle.report.specs.declared.writing.Delivery.{Delivery}
 use Rattle.report.specs.Reading.{within, input_within}
 use Rattle.machine.specs.declared.outcome.Outcome.{Outcome}
 use Rattle.machine.specs.declared.outcome.Outcome.TheVariants.{Unfinished}
-use Rattle.machine.specs.States.{State}
+use Rattle.world.specs.Worlds.{Replaced, started}
+use Rattle.world.specs.Told.{facts_of}
+use Rattle.play_words.specs.Words.{words_of}
+use Rattle.play_words.specs.declared.words.Words.{Words}
 use Rattle.play.specs.declared.TheConstants.{PROGRAM_LIMIT, SCRIPT_LIMIT}
-use Rattle.play.specs.Schedule.{final_state}
+use Rattle.play.specs.Events.{Played}
 
 -- a step that may refuse, and then the next
 infixl 10 ◌>>=◌
@@ -29,10 +33,13 @@ abbrev pub ◌>>=◌ : {A B : Type 0} → Result A Ended → (A → Result B End
 (Ok x) >>= f = f x
 (Err ended) >>= f = Err ended
 
--- the words are a program and a script
-abbrev pub form_of : List (List ℕ) → Result (List ℕ × List ℕ) Ended
-form_of (program ∷ script ∷ []) = Ok (program, script)
-form_of words = Err Usage
+-- words that say nothing aren't in form
+abbrev pub form_by : Option Words → Result Words Ended
+form_by (Some said) = Ok said
+form_by None = Err Usage
+
+abbrev pub form_of : List (List ℕ) → Result Words Ended
+form_of words = form_by (words_of words)
 
 -- a text with a newline at its end, if it isn't empty
 abbrev pub closed : List ℕ → List ℕ
@@ -43,55 +50,78 @@ abbrev pub outcome_of : Option Outcome → Outcome
 outcome_of (Some outcome) = outcome
 outcome_of None = Unfinished
 
-abbrev pub delivery_of : State → Delivery
-delivery_of s = record { outcome = outcome_of s.outcome; out = s.system.out; err = closed s.system.err }
+-- what a world delivers: outcome and outputs, and its report, which is shown or not
+abbrev pub delivery_of : (shown : Bool) → Replaced → Delivery
+delivery_of shown w = record {
+  outcome = outcome_of w.machine.outcome;
+  out = w.machine.system.out;
+  err = closed w.machine.system.err;
+  report = report_of (facts_of w);
+  shown = shown;
+}
 
--- the run of an image for the events of a script; or the script's first fault
-abbrev pub played : Picture → (input : List ℕ) → Option ScriptFault → List Event → Result Delivery Ended
-played image input (Some fault) events = Err (Script fault)
-played image input None events = Ok (delivery_of (final_state image events input))
-
-unfoldable pub run_of : Picture → (script input : List ℕ) → Result Delivery Ended
-run_of image text input = played image input (script.fault_of text) (script.events_of text)
-
--- the region where moved code may lie, of an executable that is given none
-abbrev pub region_of : Elf → Range
-region_of parts = regions.region_of parts None
-
--- what the bytes of a program are: an image, or the first fault of the file or of its image
-abbrev pub Builds : List ℕ → Result Picture ProgramFault → Type 0
-Builds bytes (Ok image) = (elf.fault_of bytes ≡ None) × (built.fault_of (parts_of bytes) (region_of (parts_of bytes)) ≡ None) × built.IsImage (parts_of bytes) (region_of (parts_of bytes)) image
-Builds bytes (Err (program.Elf fault)) = elf.fault_of bytes ≡ Some fault
-Builds bytes (Err (program.Image fault)) = (elf.fault_of bytes ≡ None) × (built.fault_of (parts_of bytes) (region_of (parts_of bytes)) ≡ Some fault)
-
--- a refusal that is a fault of the program
-abbrev pub Refuses : List ℕ → Ended → Type 0
-Refuses bytes (Program fault) = Builds bytes (Err fault)
-Refuses bytes _ = ⊥
-
--- what an image delivers under a script with an input, and what a fault does
-abbrev pub run_of_built : Result Picture ProgramFault → (script input : List ℕ) → Result Delivery Ended
-run_of_built (Ok image) script input = run_of image script input
-run_of_built (Err fault) script input = Err (Program fault)
-
--- the bytes that a call reads
+-- the bytes that a call reads, and what its words say beside the names
 pub record Given : Type 0 where
   pub program : List ℕ
   pub script : List ℕ
   pub input : List ℕ
+  pub region : Option Range
+  pub shown : Bool
+
+-- the run of an image for events that a script can ask for delivers this
+pub record IsPlayed (image : Picture) (events : List Event) (input : List ℕ) (shown : Bool) (d : Result Delivery Ended) : Type 0 where
+  pub range : AreInRange image events
+  pub world : Replaced
+  pub played : Played events (started image input) world
+  pub delivers : d ≡ Ok (delivery_of shown world)
+
+-- this is the run for the events of a script, or the script's first fault
+abbrev pub RunsTo : Picture → List Event → (input : List ℕ) → (shown : Bool) → Option ScriptFault → Result Delivery Ended → Type 0
+RunsTo image events input shown (Some fault) d = d ≡ Err (Script fault)
+RunsTo image events input shown None d = IsPlayed image events input shown d
+
+abbrev pub IsRunOf : Picture → (script input : List ℕ) → (shown : Bool) → Result Delivery Ended → Type 0
+IsRunOf image text input shown d = RunsTo image (script.events_of image text) input shown (script.fault_of image text) d
+
+-- the region where moved code may lie: the one that is given, or the default
+abbrev pub region_in : (program : List ℕ) → Option Range → Range
+region_in program region = regions.region_of (parts_of program) region
+
+-- an executable without a fault has this image, and it keeps what each image does
+pub record IsBuilt (bytes : List ℕ) (region : Option Range) (image : Picture) : Type 0 where
+  pub fine : elf.fault_of bytes ≡ None
+  pub free : built.fault_of (parts_of bytes) (region_in bytes region) ≡ None
+  pub is : built.IsImage (parts_of bytes) (region_in bytes region) image
+  pub kept : IsKept image
+
+-- what the bytes of a program are with a region: an image, or the first fault of the file or of its image
+abbrev pub Builds : (program : List ℕ) → Option Range → Result Picture ProgramFault → Type 0
+Builds bytes region (Ok image) = IsBuilt bytes region image
+Builds bytes region (Err (program.Elf fault)) = elf.fault_of bytes ≡ Some fault
+Builds bytes region (Err (program.Image fault)) = (elf.fault_of bytes ≡ None) × (built.fault_of (parts_of bytes) (region_in bytes region) ≡ Some fault)
+
+-- a refusal that is a fault of the program
+abbrev pub Refuses : (program : List ℕ) → Option Range → Ended → Type 0
+Refuses bytes region (Program fault) = Builds bytes region (Err fault)
+Refuses bytes region _ = ⊥
+
+-- what an image delivers, and what a fault does
+abbrev pub IsRunOfBuilt : Given → Result Picture ProgramFault → Result Delivery Ended → Type 0
+IsRunOfBuilt given (Ok image) d = IsRunOf image given.script given.input given.shown d
+IsRunOfBuilt given (Err fault) d = d ≡ Err (Program fault)
 
 -- what these bytes deliver
 abbrev pub Delivers : Given → Result Delivery Ended → Type 0
-Delivers given d = (image : Result Picture ProgramFault) × Builds given.program image × (run_of_built image given.script given.input ≡ d)
+Delivers given d = (image : Result Picture ProgramFault) × Builds given.program given.region image × IsRunOfBuilt given image d
 
 -- the bytes of both files and of the input, or the first refusal before them
 unfoldable pub given_by : (words : List (List ℕ)) → Disk → (input : List ℕ) → Result Given Ended
 given_by words disk input = do
-  names ← form_of words
-  program ← within names.0 PROGRAM_LIMIT (disk names.0)
-  script ← within names.1 SCRIPT_LIMIT (disk names.1)
+  said ← form_of words
+  program ← within said.program PROGRAM_LIMIT (disk said.program)
+  script ← within said.script SCRIPT_LIMIT (disk said.script)
   bytes ← input_within input
-  Ok (record { program = program; script = script; input = bytes })
+  Ok (record { program = program; script = script; input = bytes; region = said.region; shown = said.report })
 
 abbrev pub DecidesFrom : Result Given Ended → Result Delivery Ended → Type 0
 DecidesFrom (Ok given) d = Delivers given d
@@ -100,11 +130,3 @@ DecidesFrom (Err ended) d = d ≡ Err ended
 -- what the words, the files and the input ask for
 abbrev pub Decides : (words : List (List ℕ)) → Disk → (input : List ℕ) → Result Delivery Ended → Type 0
 Decides words disk input d = DecidesFrom (given_by words disk input) d
-
--- the names that the words give, in the order in which the files are asked for them
-abbrev pub named : Result (List ℕ × List ℕ) Ended → List (List ℕ)
-named (Ok names) = names.0 ∷ names.1 ∷ []
-named (Err ended) = []
-
-abbrev pub names_of : List (List ℕ) → List (List ℕ)
-names_of words = named (form_of words)

@@ -1,3 +1,6 @@
 pub mod Causes
 pub mod Decision
+pub mod Events
+pub mod Originals
+pub mod Ready
 pub mod Schedule

@@ -1,4 +1,4 @@
--- The run that a list of events asks for, on the original machine. Source: this project.
+-- What events that move no code let the original machine do. Source: this project.
 use Rattle.std.specs.Prelude.{ℕ, zero, suc, List, [], ◌∷◌, ◌++◌, length, replicate}
 use Rattle.std.specs.List.{range_with_len}
 use Rattle.image.specs.Picture.{Picture}
@@ -6,7 +6,7 @@ use Rattle.machine.specs.States.{State}
 use Rattle.machine.specs.Start.{start_of}
 use Rattle.machine.specs.Steps.{original_run}
 use Rattle.sched_log.specs.declared.event.Event.{Event}
-use Rattle.sched_log.specs.declared.event.Event.TheVariants.{Steps, Real, Till}
+use Rattle.sched_log.specs.declared.event.Event.TheVariants.{Steps, Real, Till, Given}
 
 -- one turn: each hart that is there at its start, ascending
 abbrev pub turn : State → List ℕ
@@ -22,6 +22,7 @@ abbrev pub harts_of : Picture → Event → State → List ℕ
 harts_of image (Steps h n) s = replicate n h
 harts_of image (Real h n) s = replicate n h
 harts_of image (Till n) s = turns image n s
+harts_of image (Given plan) s = []
 
 -- the harts that the events let step, in order
 abbrev pub schedule : Picture → List Event → State → List ℕ

@@ -1,36 +1,29 @@
 //! The call itself: decide from words, files and input, make all text, write it.
 
-ghost use Rattle.std.specs.Prelude.{◌≡◌, ◌≢◌, ◌⊎◌, ℕ, ◌≤◌, List, map, Result, Ok, Err, MatchOption, string_bytes};
+ghost use Rattle.std.specs.Prelude.{◌≡◌, ◌≢◌, ◌⊎◌, ℕ, ◌≤◌, List, map, Result, Ok, Err, string_bytes};
 ghost use Rattle.oc_base.specs.Outside.{Rose, Disk, GainedPart, LostPart, TakeFailed};
 ghost use Rattle.machine.specs.declared.outcome.Outcome.{Outcome};
+ghost use Rattle.play_words.specs.Words.{names_of};
 ghost use Rattle.report.specs.Answer.{status_of};
 ghost use Rattle.report.specs.Cause.{Delivered, GaveUp, Settles};
 ghost use Rattle.report.specs.Reading.{InputFailed};
 ghost use Rattle.report.specs.declared.answer.Ended.{Ended};
 ghost use Rattle.report.specs.declared.writing.Delivery.{Delivery};
-ghost use Rattle.play.specs.Decision.{form_of, Decides, names_of};
-ghost use Rattle.play.specs.Causes.{Told, Decided, AsksFor, AllDone};
+ghost use Rattle.play.specs.Decision.{form_of, Decides};
+ghost use Rattle.play.specs.Causes.{Told, Decided, AsksFor, AllDone, Unreported};
+ghost use Rattle.play.specs.Originals.{RunsOriginally};
 
 use crate::run::run;
 use crate::{PROGRAM_LIMIT, SCRIPT_LIMIT};
 use oc_base::files::Files;
+use oc_base::items::Items;
 use oc_base::sink::{Sink, write_all};
 use oc_base::source::Source;
-use report::answer::{Answer, Ended, status};
+use play_words::words::{WordsFault, read_words};
+use report::answer::{Answer, Ended};
 use report::reading::{fetch, fetch_input};
 use report::writing::{Delivery, deliver, prepare};
 use std::alloc::Global;
-
-// The two words, if there are two.
-fn form(words: &[String]) -> Option<(&str, &str)>
-    ensures { MatchOption result (form_of (map string_bytes words.now) ≡ Err Ended.Usage)
-        (λ names. form_of (map string_bytes words.now) ≡ Ok (names.0.now, names.1.now)) }
-{
-    let [program, script] = words else {
-        return None;
-    };
-    Some((program.as_str(), script.as_str()))
-}
 
 // What the words, the files and the input ask for.
 fn decide<F: Files, I: Source>(
@@ -55,14 +48,16 @@ fn decide<F: Files, I: Source>(
     ensures rest { LostPart (I.left input.old) (I.left input.new) }
     ensures reads { I.faults input.old ≤ I.faults input.new }
 {
-    let Some((program, script)) = form(words) else {
-        return Err(Ended::Usage);
+    let said = match read_words(alloc, words) {
+        Ok(said) => said,
+        Err(WordsFault::Usage) => return Err(Ended::Usage),
+        Err(WordsFault::NoMemory) => return Err(Ended::NoMemory),
     };
-    let program = match fetch(alloc, files, program, PROGRAM_LIMIT) {
+    let program = match fetch(alloc, files, said.program.as_str(), PROGRAM_LIMIT) {
         Ok(bytes) => bytes,
         Err(ended) => return Err(ended),
     };
-    let script = match fetch(alloc, files, script, SCRIPT_LIMIT) {
+    let script = match fetch(alloc, files, said.script.as_str(), SCRIPT_LIMIT) {
         Ok(bytes) => bytes,
         Err(ended) => return Err(ended),
     };
@@ -70,13 +65,14 @@ fn decide<F: Files, I: Source>(
         Ok(bytes) => bytes,
         Err(ended) => return Err(ended),
     };
-    run(alloc, &program, &script, bytes)
+    run(alloc, &program, &script, bytes, said.region, said.report)
 }
 
 /// Runs a program under a script and writes what the run delivers.
 ///
-/// The words are the names of the program and of the script. `files` gives both, `input` what the guest reads, `out` takes
-/// what the guest writes to its first output, and `err` what it writes to its second and then the last line.
+/// The words are the names of the program and of the script, and options: a region for moved code, and whether the report is
+/// written. `files` gives both files, `input` what the guest reads, `out` takes what the guest writes to its first output, and `err`
+/// what it writes to its second, then the report, and then the last line. The answer has the report of a run, written or not.
 /// On every refusal only the last line is written; want of memory is such a refusal, and its line may be lost.
 pub fn play<F: Files, I: Source, O: Sink, E: Sink>(
     alloc: Global,
@@ -88,10 +84,16 @@ pub fn play<F: Files, I: Source, O: Sink, E: Sink>(
 ) -> Answer
     ensures status { result.status ≡ status_of result.ended }
 
-    // Where files and input tell, a run that is answered is the run of their bytes, and all that it delivers is written.
+    // Where files and input tell, a run that is answered is the run of their bytes, all that it delivers is written, and its report is
+    // answered.
     ensures ran { (outcome : Outcome) → result.ended ≡ Ended.Ran outcome →
         Told (F.disk files.old) (I.left input.old) (λ disk given. AllDone (map string_bytes words.now) disk given
-        (O.holds out.old) (O.holds out.new) (E.holds err.old) (E.holds err.new) result.ended) }
+        (O.holds out.old) (O.holds out.new) (E.holds err.old) (E.holds err.new) result.ended result.report) }
+    ensures unreported { Unreported result.ended result.report }
+
+    // Whatever the script moves, a run that is asked for is that of the original machine, with the steps of layouts left out.
+    ensures original { (disk : Disk) (given : List ℕ) (d : Delivery) → Decides (map string_bytes words.now) disk given (Ok d)
+        → RunsOriginally (map string_bytes words.now) disk given d }
 
     // The answer is the one that words, files and input ask for, but for a fault of a device and for want of memory.
     ensures answer { Told (F.disk files.old) (I.left input.old) (λ disk given.
@@ -129,7 +131,7 @@ pub fn play<F: Files, I: Source, O: Sink, E: Sink>(
         → (Rose (O.faults out.old) (O.faults out.new) → ⊥) → (Rose (E.faults err.old) (E.faults err.new) → ⊥)
         → result.ended ≢ Ended.NoMemory
         → AllDone (map string_bytes words.now) disk given
-        (O.holds out.old) (O.holds out.new) (E.holds err.old) (E.holds err.new) result.ended) }
+        (O.holds out.old) (O.holds out.new) (E.holds err.old) (E.holds err.new) result.ended result.report) }
 
     // The files are asked for the names of the words alone, each once and in their order, and keep what they have.
     ensures asked { GainedPart (F.asked files.old) (F.asked files.new) (names_of (map string_bytes words.now)) }
@@ -144,11 +146,8 @@ pub fn play<F: Files, I: Source, O: Sink, E: Sink>(
         return Answer {
             status: 125,
             ended: Ended::NoMemory,
+            report: Items::new(alloc),
         };
     };
-    let ended = deliver(writing, out, err);
-    Answer {
-        status: status(&ended),
-        ended,
-    }
+    deliver(alloc, writing, out, err)
 }

@@ -1,24 +1,27 @@
 //! What the bytes of a program, of a script and of an input deliver.
 
-ghost use Rattle.std.specs.Prelude.{◌≡◌, Ok, Err, IfOk, IfErr};
+ghost use Rattle.std.specs.Prelude.{◌≡◌, Ok, Err, IfOk, IfErr, IfSome};
+ghost use Rattle.image.specs.Picture.{IsPaged};
 ghost use Rattle.report.specs.Cause.{Reason, Because};
-ghost use Rattle.play.specs.Decision.{Given, Builds, Refuses, Delivers, closed, delivery_of, outcome_of, run_of};
+ghost use Rattle.play.specs.Decision.{Builds, Refuses, IsRunOf, Delivers, closed, delivery_of, outcome_of};
 
 use crate::schedule::perform;
 use elf_read::fault::ElfFault;
 use elf_read::read::read_elf;
 use image::picture::Image;
-use machine::machine::Machine;
 use machine::outcome::Outcome;
 use oc_base::fault::NoMemory;
 use oc_base::items::Items;
+use oc_base::range::Range;
 use relocs::build::build_image;
 use relocs::fault::ImageFault;
 use report::answer::{Ended, ProgramFault};
+use report::text::report;
 use report::writing::Delivery;
 use sched_log::fault::ScriptFault;
 use sched_log::read::read_script;
 use std::alloc::Global;
+use world::world::World;
 
 fn outcome_of(ended: Option<Outcome>) -> Outcome
     ensures { result ≡ outcome_of ended }
@@ -47,62 +50,81 @@ fn closed(text: Items<u8>) -> Result<Items<u8>, NoMemory>
     Ok(text)
 }
 
-// The image of a program, with the default region.
-fn build(alloc: Global, bytes: &[u8]) -> Result<Image, Ended>
-    ensures image { IfOk result (λ image. Builds bytes.now (Ok image)) }
-    ensures refusal { IfErr result (Reason ⊥ (λ _. ⊥) (Refuses bytes.now)) }
+// The image of a program, with the region that is given or the default one.
+fn build(alloc: Global, bytes: &[u8], region: Option<Range>) -> Result<Image, Ended>
+    requires pages { IfSome region IsPaged }
+    ensures image { IfOk result (λ image. Builds bytes.now region (Ok image)) }
+    ensures refusal { IfErr result (Reason ⊥ (λ _. ⊥) (Refuses bytes.now region)) }
 {
     let elf = match read_elf(alloc, bytes) {
         Ok(elf) => elf,
         Err(ElfFault::NoMemory) => return Err(Ended::NoMemory),
         Err(fault) => return Err(Ended::Program(ProgramFault::Elf(fault))),
     };
-    match build_image(alloc, &elf, None) {
-        Ok(image) => Ok(image),
-        Err(ImageFault::NoMemory) => Err(Ended::NoMemory),
-        Err(fault) => Err(Ended::Program(ProgramFault::Image(fault))),
-    }
+    let image = match build_image(alloc, &elf, region) {
+        Ok(image) => image,
+        Err(ImageFault::NoMemory) => return Err(Ended::NoMemory),
+        Err(fault) => return Err(Ended::Program(ProgramFault::Image(fault))),
+    };
+    image.kept();
+    Ok(image)
 }
 
-// What a machine delivers.
-fn delivery_of(alloc: Global, machine: &Machine) -> Result<Delivery, NoMemory>
-    ensures { IfOk result (λ d. d ≡ delivery_of machine.now) }
+// What a world delivers.
+fn delivery_of(alloc: Global, world: &World, shown: bool) -> Result<Delivery, NoMemory>
+    ensures { IfOk result (λ d. d ≡ delivery_of shown world.now) }
 {
-    let out = Items::from_slice(alloc, machine.output(1))?;
-    let err = Items::from_slice(alloc, machine.output(2))?;
+    let facts = world.facts(alloc)?;
+    let out = Items::from_slice(alloc, world.output(1))?;
+    let err = Items::from_slice(alloc, world.output(2))?;
     Ok(Delivery {
-        outcome: outcome_of(machine.outcome()),
+        outcome: outcome_of(world.outcome()),
         out,
         err: closed(err)?,
+        report: report(alloc, &facts)?,
+        shown,
     })
 }
 
 // The run of an image under a script.
-#[tactic(auto, unfolding(crate::specs::Decision::run_of))]
-fn run_image(alloc: Global, image: &Image, script: &[u8], input: Vec<u8>) -> Result<Delivery, Ended>
-    ensures { Because ⊥ (λ _. ⊥) (λ decision. run_of image.now script.now input.items ≡ decision) result }
+fn run_image(
+    alloc: Global,
+    image: Image,
+    script: &[u8],
+    input: Vec<u8>,
+    shown: bool,
+) -> Result<Delivery, Ended>
+    ensures { Because ⊥ (λ _. ⊥) (IsRunOf image script.now input.items shown) result }
 {
-    let events = match read_script(alloc, script) {
+    let events = match read_script(alloc, &image, script) {
         Ok(events) => events,
         Err(ScriptFault::NoMemory) => return Err(Ended::NoMemory),
         Err(fault) => return Err(Ended::Script(fault)),
     };
-    let Ok(machine) = perform(alloc, image, events.as_slice(), input) else {
+    let Ok(world) = perform(alloc, image, events.as_slice(), input) else {
         return Err(Ended::NoMemory);
     };
-    let Ok(delivery) = delivery_of(alloc, &machine) else {
+    let Ok(delivery) = delivery_of(alloc, &world, shown) else {
         return Err(Ended::NoMemory);
     };
     Ok(delivery)
 }
 
-/// Runs the program under the script, with the input.
-pub fn run(alloc: Global, program: &[u8], script: &[u8], input: Vec<u8>) -> Result<Delivery, Ended>
-    ensures { Because ⊥ (λ _. ⊥) (Delivers (record { program = program.now; script = script.now; input = input.items })) result }
+/// Runs the program under the script, with the input and a region for moved code; `shown` says whether the report is written.
+pub fn run(
+    alloc: Global,
+    program: &[u8],
+    script: &[u8],
+    input: Vec<u8>,
+    region: Option<Range>,
+    shown: bool,
+) -> Result<Delivery, Ended>
+    requires pages { IfSome region IsPaged }
+    ensures { Because ⊥ (λ _. ⊥) (Delivers (record { program = program.now; script = script.now; input = input.items; region = region; shown = shown })) result }
 {
-    let image = match build(alloc, program) {
+    let image = match build(alloc, program, region) {
         Ok(image) => image,
         Err(ended) => return Err(ended),
     };
-    run_image(alloc, &image, script, input)
+    run_image(alloc, image, script, input, shown)
 }

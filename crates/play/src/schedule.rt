@@ -1,73 +1,107 @@
 //! Events, done one after the other.
 
-ghost use Rattle.std.specs.Prelude.{◌≡◌, ◌<◌, ◌^◌, ℕ, length, OnOk, IfOk};
-ghost use Rattle.std.specs.List.{range_with_len};
-ghost use Rattle.machine.specs.Start.{start_of};
-ghost use Rattle.machine.specs.Steps.{original_run};
-ghost use Rattle.play.specs.Schedule.{turn, turns, harts_of, schedule, final_state};
+ghost use Rattle.std.specs.Prelude.{◌≡◌, replicate, OnOk, IfOk};
+ghost use Rattle.sched_log.specs.Ranges.{AreInRange};
+ghost use Rattle.world.specs.Runs.{a_step, real_steps_of};
+ghost use Rattle.world.specs.Replacing.{Replaces};
+ghost use Rattle.world.specs.Worlds.{started};
+ghost use Rattle.play.specs.Events.{harts_in, stretched, turns, atoms_of, Runs, Played};
+ghost use Rattle.play.specs.Ready.{CanMove, CanObey, AreReady};
 
 use image::picture::Image;
-use machine::machine::Machine;
 use oc_base::fault::NoMemory;
+use plans::plan::Plan;
 use sched_log::event::Event;
+use sched_log::facts::Refusal;
 use std::alloc::Global;
+use world::world::World;
 
-// A step of each hart that is there.
-#[tactic(auto, using(crate::proofs::Turns::turn_left))]
-fn take_turn(machine: &mut Machine, image: &Image) -> Result<(), NoMemory>
-    ensures { OnOk result (machine.new ≡ original_run image.now (turn machine.old) machine.old) }
+// So many steps of a hart, of layouts or real.
+fn take_steps(world: &mut World, h: u32, count: u64) -> Result<(), NoMemory>
+    ensures { OnOk result (Runs (replicate count (a_step h)) world.old world.new) }
 {
-    for h in 0..machine.made() {
-        machine.real_original(image, h)?;
+    for _step in 0..count {
+        if world.outcome().is_some() {
+            return Ok(());
+        }
+        world.step(h)?;
+    }
+    Ok(())
+}
+
+// A real step of each hart that is there.
+fn take_turn(world: &mut World) -> Result<(), NoMemory>
+    ensures { OnOk result (world.new ≡ stretched (harts_in world.old) world.old) }
+{
+    for h in 0..world.made() {
+        world.real_step(h)?;
     }
     Ok(())
 }
 
 // So many turns.
-#[tactic(auto, using(machine::proofs::Stays::stays))]
-fn take_turns(machine: &mut Machine, image: &Image, count: u64) -> Result<(), NoMemory>
-    ensures { OnOk result (machine.new ≡ original_run image.now (turns image.now count machine.old) machine.old) }
+fn take_turns(world: &mut World, count: u64) -> Result<(), NoMemory>
+    ensures { OnOk result (Runs (turns count world.old) world.old world.new) }
 {
     for _turn in 0..count {
-        if machine.outcome().is_some() {
+        if world.outcome().is_some() {
             return Ok(());
         }
-        take_turn(machine, image)?;
+        take_turn(world)?;
     }
     Ok(())
 }
 
+// Moves the functions of a plan. A refusal is counted by the world, and the run goes on.
+fn replace(world: &mut World, plan: &Plan) -> Result<(), NoMemory>
+    requires { CanMove plan.now world.old }
+    ensures { OnOk result (Replaces plan.now world.old world.new) }
+{
+    match world.replace(plan) {
+        Ok(()) => Ok(()),
+        Err(Refusal::NoMemory) => Err(NoMemory),
+        Err(Refusal::RegionFull { .. }) => Ok(()),
+        Err(Refusal::BranchReach { .. }) => Ok(()),
+        Err(Refusal::Unreadable { .. }) => Ok(()),
+    }
+}
+
 // What an event asks for.
-fn obey(machine: &mut Machine, image: &Image, event: Event) -> Result<(), NoMemory>
-    ensures { OnOk result (machine.new ≡ original_run image.now (harts_of image.now event machine.old) machine.old) }
+fn obey(world: &mut World, event: &Event) -> Result<(), NoMemory>
+    requires { CanObey event.now world.old }
+    ensures { OnOk result (Runs (atoms_of event.now world.old) world.old world.new) }
 {
     match event {
-        Event::Steps { h, n } | Event::Real { h, n } => machine.run(image, h, n),
-        Event::Till { n } => take_turns(machine, image, n),
+        Event::Steps { h, n } => take_steps(world, *h, *n),
+        Event::Real { h, n } => world.run(*h, *n),
+        Event::Till { n } => take_turns(world, *n),
+        Event::Given(plan) => replace(world, plan),
     }
 }
 
 // What all events ask for, in their order.
-fn obey_all(machine: &mut Machine, image: &Image, events: &[Event]) -> Result<(), NoMemory>
-    ensures { OnOk result (machine.new ≡ original_run image.now (schedule image.now events.now machine.old) machine.old) }
+fn obey_all(world: &mut World, events: &[Event]) -> Result<(), NoMemory>
+    requires { AreReady events.now world.old }
+    ensures { OnOk result (Played events.now world.old world.new) }
 {
     for event in events {
-        obey(machine, image, *event)?;
+        obey(world, event)?;
+        world.kept();
     }
     Ok(())
 }
 
-/// The machine after these events, from its start with an input.
-#[tactic(auto, unfolding(crate::specs::Schedule::final_state))]
+/// The world after these events, from its start with an input.
 pub fn perform(
     alloc: Global,
-    image: &Image,
+    image: Image,
     events: &[Event],
     input: Vec<u8>,
-) -> Result<Machine, NoMemory>
-    ensures { IfOk result (λ m. m ≡ final_state image.now events.now input.items) }
+) -> Result<World, NoMemory>
+    requires { AreInRange image events.now }
+    ensures { IfOk result (Played events.now (started image input.items)) }
 {
-    let mut machine = Machine::start(alloc, image, input)?;
-    obey_all(&mut machine, image, events)?;
-    Ok(machine)
+    let mut world = World::start(alloc, image, input)?;
+    obey_all(&mut world, events)?;
+    Ok(world)
 }

@@ -110,13 +110,14 @@ fn compressed(alloc: Global) -> Result<Vec<u8>, Fail> {
 }
 
 // The files of all rows. The whole file `hi.elf` has 403 bytes, its section headers from 211 on.
-const SCRIPTS: [(&str, &str); 11] = [
+const SCRIPTS: [(&str, &str); 12] = [
     ("whole", "real 0 100\nend\n"),
     ("four", "real 0 4\nend\n"),
     ("till", "# all harts\n\ntill 100\nend"),
     ("steps", "steps 0 3\nsteps 0 5\nend\n"),
     ("another hart", "real 1 100\nend\n"),
     ("no end", "till 5\n"),
+    ("nowhere", "replace 0:0\nend\n"),
     ("go", "go\n"),
     ("number", "till x\n"),
     ("two ends", "end\nend\n"),
@@ -153,6 +154,8 @@ hi.elf,steps|0 0 0 0|0|hi/|exit 0/
 hi.elf,most|0 0 0 0|0|hi/|exit 0/
 hi.elf,four|0 0 0 0|115||unfinished/
 hi.elf,another hart|0 0 0 0|115||unfinished/
+hi.elf,whole,--region,0x20000:4096|0 0 0 0|0|hi/|exit 0/
+--region=131072:0x1000,hi.elf,--,whole|0 0 0 0|0|hi/|exit 0/
 branch.elf,whole|0 0 0 0|115|hi/|unfinished/
 trap.elf,whole|0 0 0 0|118|hi/|trap 1 at 0x10020 value 0x10020/";
 
@@ -163,8 +166,10 @@ cut.elf,whole|0 0 0 0|123||program elf 5 0/
 compressed.elf,whole|0 0 0 0|123||program elf 3 0/
 last-byte-cut.elf,whole|0 0 0 0|123||program elf 5 211/
 into-the-region.elf,whole|0 0 0 0|123||program image 5 0x10000/
+hi.elf,whole,--region,0x11000:4096|0 0 0 0|123||program image 4 0x11000/
 hi.elf,no end|0 0 0 0|124||script line 2 fault 5/
 hi.elf,go|0 0 0 0|124||script line 1 fault 1/
+hi.elf,nowhere|0 0 0 0|124||script line 1 fault 3/
 hi.elf,number|0 0 0 0|124||script line 1 fault 2/
 hi.elf,two ends|0 0 0 0|124||script line 2 fault 6/
 hi.elf,too many|0 0 0 0|124||script line 2 fault 7/";
@@ -172,6 +177,14 @@ hi.elf,too many|0 0 0 0|124||script line 2 fault 7/";
 const REFUSALS: &str = "\
 hi.elf|0 0 0 0|120||usage/
 hi.elf,whole,more|0 0 0 0|120||usage/
+hi.elf,whole,--help|0 0 0 0|120||usage/
+hi.elf,whole,--report=true|0 0 0 0|120||usage/
+hi.elf,whole,--report,--report|0 0 0 0|120||usage/
+hi.elf,whole,--region|0 0 0 0|120||usage/
+hi.elf,whole,--region,0x20001:4096|0 0 0 0|120||usage/
+hi.elf,whole,--region,0x20000|0 0 0 0|120||usage/
+hi.elf,whole,--region,0x20000:8392704|0 0 0 0|120||usage/
+hi.elf,whole,--ring,4|0 0 0 0|120||usage/
 none.elf,whole|0 0 0 0|121||cannot read none.elf/
 hi.elf,none|0 0 0 0|121||cannot read none/
 hi.elf,whole|1 0 0 0|121||cannot read hi.elf/
@@ -241,6 +254,41 @@ fn runs_deliver_what_the_guest_wrote(rt: HostRuntime) -> Result<(), Fail> {
         check(&rt, row)?;
     }
     Ok(())
+}
+
+// The report of the program `hi` that has run to its end: eight instructions.
+const REPORT: &str = "\
+real 8 layout 0
+snaps 0 attempts 0 done 0 refused 0 retired 0
+sites 0 slots 0
+hart 0 ended
+";
+
+fn check_report(
+    rt: &(impl Abort + AllocGlobal),
+    words: &str,
+    report: &str,
+    written: &str,
+) -> Result<(), Fail> {
+    let alloc = rt.alloc();
+    let mut files = MemFiles::new(disk(alloc)?, Vec::new(alloc));
+    let mut input = MemSource::new(Vec::new(alloc), Vec::new(alloc));
+    let mut out = MemSink::new(Vec::new(alloc), Vec::new(alloc));
+    let mut err = MemSink::new(Vec::new(alloc), Vec::new(alloc));
+    let words = words_of(alloc, words)?;
+    let answer = play(alloc, &words, &mut files, &mut input, &mut out, &mut err);
+    assert_eq!(rt; answer.report.as_slice(), report.as_bytes());
+    assert_eq!(rt; err.held(), written.as_bytes());
+    Ok(())
+}
+
+#[test]
+fn a_run_has_a_report(rt: HostRuntime) -> Result<(), Fail> {
+    let alloc = rt.alloc();
+    let both = format!(in alloc; "{REPORT}ocolos: exit 0\n")?;
+    check_report(&rt, "hi.elf,whole,--report", REPORT, both.as_str())?;
+    check_report(&rt, "hi.elf,whole", REPORT, "ocolos: exit 0\n")?;
+    check_report(&rt, "hi.elf,--report", "", "ocolos: usage\n")
 }
 
 #[test]

@@ -1,7 +1,14 @@
-use Rattle.std.proofs.Common.{◌∙◌}
-use Rattle.play.proofs.Turns.{events_more}
+use Rattle.std.proofs.Common.{subst}
+use Rattle.play.specs.Events.{atoms_of, Runs}
+use Rattle.play.proofs.ReadyNext.{ready_after}
+use Rattle.play.proofs.Running.{events_left}
 use Rattle.play.proofs.schedule.obey_all.Goals as goal
 
 pub loop-event-preserved : goal.loop-event-preserved
 loop-event-preserved c =
-    events_more c.args.image.now c.args.events.now c.loop-event.event-index _ c.loop-event.machine c.obey.new.machine c.loop-event-test.true c.in_ok-obey.ensures ∙ c.loop-event.invariant
+    let run = subst (λ e. Runs (atoms_of e c.loop-event.world) c.loop-event.world c.obey.new.world) c.event-item.is c.in_ok-obey.ensures in
+    record {
+      ready = ready_after c.args.events.now c.loop-event.event-index c.event-item.result c.loop-event.world c.obey.new.world c.loop-event-test.true c.loop-event.invariant.ready run;
+      rest = λ v more. c.loop-event.invariant.rest v
+          (events_left c.args.events.now c.loop-event.event-index c.event-item.result c.loop-event.world c.obey.new.world v c.loop-event-test.true run c.kept.ensures.code more);
+    }

@@ -1,8 +1,12 @@
 use Rattle.std.proofs.Common.{◌≡◌, drop}
-use Rattle.machine.specs.Steps.{original_run}
-use Rattle.play.specs.Schedule.{schedule}
+use Rattle.world.specs.Worlds.{Replaced}
+use Rattle.play.specs.Events.{Played}
+use Rattle.play.specs.Ready.{AreReady}
 use Rattle.play.proofs.schedule.obey_all.Given as goal
 
--- the events that are left make the same of the machine
+-- the events that are left can be done, and with them all are
 abbrev pub invariant-loop-event : goal.invariant-loop-event
-invariant-loop-event l = original_run l.image (schedule l.image (drop l.event-index l.events) l.machine) l.machine ≡ original_run l.image (schedule l.image l.events l.fn.machine) l.fn.machine
+invariant-loop-event l = record {
+  ready : AreReady (drop l.event-index l.events) l.world;
+  rest : (v : Replaced) → Played (drop l.event-index l.events) l.world v → Played l.events l.fn.world v;
+}

@@ -1,9 +1,8 @@
 use Rattle.std.proofs.Common.{◌≡◌, ◌-◌, length}
 use Rattle.std.specs.List.{range_with_len}
-use Rattle.machine.specs.Steps.{original_run}
-use Rattle.play.specs.Schedule.{turn}
+use Rattle.play.specs.Events.{harts_in, stretched}
 use Rattle.play.proofs.schedule.take_turn.Given as goal
 
--- the steps that are left make the same of the machine
+-- the steps that are left make the same of the world
 abbrev pub invariant-loop-h : goal.invariant-loop-h
-invariant-loop-h l = original_run l.image (range_with_len l.h (length l.fn.machine.harts - l.h)) l.machine ≡ original_run l.image (turn l.fn.machine) l.fn.machine
+invariant-loop-h l = stretched (range_with_len l.h (length l.fn.world.machine.harts - l.h)) l.world ≡ stretched (harts_in l.fn.world) l.fn.world

@@ -1,8 +1,8 @@
 use Rattle.std.proofs.Common.{◌≡◌, ◌-◌}
-use Rattle.machine.specs.Steps.{original_run}
-use Rattle.play.specs.Schedule.{turns}
+use Rattle.world.specs.Worlds.{Replaced}
+use Rattle.play.specs.Events.{turns, Runs}
 use Rattle.play.proofs.schedule.take_turns.Given as goal
 
--- the turns that are left make the same of the machine
+-- with the turns that are left all are made
 abbrev pub invariant-loop-turn : goal.invariant-loop-turn
-invariant-loop-turn l = original_run l.image (turns l.image (l.count - l._turn) l.machine) l.machine ≡ original_run l.image (turns l.image l.count l.fn.machine) l.fn.machine
+invariant-loop-turn l = (v : Replaced) → Runs (turns (l.count - l._turn) l.world) l.world v → Runs (turns l.count l.fn.world) l.fn.world v

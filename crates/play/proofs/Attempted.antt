@@ -1,0 +1,19 @@
+-- What an attempt that doesn't want for memory makes of a world.
+use Rattle.std.proofs.Common.{◌≡◌, ◌≢◌, Bool, true, false, List, Result, Ok, Err, refl, is_some}
+use Rattle.plans.specs.declared.plan.Moved.{Moved}
+use Rattle.sched_log.specs.declared.facts.Refusal.{Refusal}
+use Rattle.sched_log.specs.declared.facts.Refusal.TheVariants.{RegionFull, BranchReach, Unreadable, NoMemory}
+use Rattle.world.specs.Worlds.{Replaced}
+use Rattle.world.specs.Replacing.{Attempts, Replaces, over, done, refused}
+
+pub replaces : (plan : List Moved) (w v : Replaced) (answer : Result Unit Refusal) → Attempts plan w (is_some w.machine.outcome) answer v → answer ≢ Err NoMemory → Replaces plan w v
+replaces plan w v answer = by_end answer (is_some w.machine.outcome) refl
+  where
+    by_end : (answer : Result Unit Refusal) (b : Bool) → is_some w.machine.outcome ≡ b → Attempts plan w b answer v → answer ≢ Err NoMemory → Replaces plan w v
+    by_end (Ok u) true e is room = over e is
+    by_end (Err why) true e is room = absurd is
+    by_end (Ok u) false e is room = done e is
+    by_end (Err (RegionFull n m)) false e is room = refused (RegionFull n m) (λ x. cc) e is.0 is.1
+    by_end (Err (BranchReach at to)) false e is room = refused (BranchReach at to) (λ x. cc) e is.0 is.1
+    by_end (Err (Unreadable g y)) false e is room = refused (Unreadable g y) (λ x. cc) e is.0 is.1
+    by_end (Err NoMemory) false e is room = absurd (room refl)

@@ -1,0 +1,222 @@
+-- A run whose code is moved is one of the original machine.
+use Rattle.std.proofs.Common.{◌≡◌, ◌≢◌, ℕ, zero, suc, Bool, true, false, not, List, [], ◌∷◌, ◌++◌, length, replicate, refl, sym, ap, subst, ◌∙◌, arith}
+use Rattle.std.specs.Prelude.{Option, Some, None, ◌==◌, ◌&&◌, is_some, slice_get, sum_by, if◌then◌else◌}
+use Rattle.std.specs.List.{range_with_len}
+use Rattle.std.proofs.lemmas.List.Sums.{sum_by-cons}
+use Rattle.std.specs.Option.{option_map}
+use Rattle.std.proofs.lemmas.Bool.{eq-eqb}
+use Rattle.rv_isa.specs.declared.instr.Instr.{Instr}
+use Rattle.rv_isa.specs.declared.instr.Instr.TheVariants as instr
+use Rattle.image.specs.Picture.{Picture}
+use Rattle.layout.specs.declared.point.Point.TheVariants.{Start}
+use Rattle.layout.specs.Points.{live_at, in_range, here_point, read}
+use Rattle.machine.specs.States.{State}
+use Rattle.machine.specs.Harts.{is_live, hart_in}
+use Rattle.machine.specs.Steps.{original_step, original_run}
+use Rattle.machine.proofs.Stays.{run_append, stays}
+use Rattle.sched_log.specs.Script.{plan_count}
+use Rattle.sched_log.specs.declared.event.Event.{Event}
+use Rattle.sched_log.specs.declared.event.Event.TheVariants.{Steps, Real, Till, Given}
+use Rattle.sim_laws.specs.declared.stepped.Stepped.{Stepped}
+use Rattle.sim_laws.specs.declared.stepped.Stepped.TheVariants as kind
+use Rattle.sim_laws.specs.Origins.{is_moved_address, is_layout_point, is_layout_step}
+use Rattle.sim_laws.specs.Related.{Both}
+use Rattle.sim_laws.specs.Steps.{original_after, is_layout, stepped}
+use Rattle.sim_laws.proofs.HartLists.{no_left, no_right}
+use Rattle.world.specs.Worlds.{Replaced, kind_of, step_of, code_of}
+use Rattle.world.specs.Runs.{Atom, a_step, a_real_step, a_replacement, IsRun, of_real, real_kind_of, real_step_of, until_real, stretch}
+use Rattle.play.specs.Events.{harts_in, stretched, turns, atoms_of, IsWorld, Plays}
+use Rattle.play.specs.Schedule as original
+use Rattle.play.specs.Ready.{CanObey, AreReady}
+use Rattle.play.proofs.Laws.{Stands, Laws}
+use Rattle.play.proofs.ReadyNext.{SameCode, step_unmoved, real_unmoved, AreSteps, steps_are, reals_are, turns_are, run_unmoved, replaced_image, ready_next, can_obey}
+
+-- what the original machine does meanwhile is its run of the harts of the real steps
+meanwhile : (k : Stepped) (p : Picture) (h : ℕ) (o : State) → original_after k p h o ≡ original_run p (of_real k h) o
+meanwhile kind.Real p h o = refl
+meanwhile kind.Layout p h o = refl
+meanwhile kind.Over p h o = refl
+
+module _ {A B : Type 0} {R : A → B → Type 0} where
+  same_length : (xs : List A) (ys : List B) → ((k : ℕ) → Both R (slice_get xs k) (slice_get ys k)) → length xs ≡ length ys
+  same_length [] [] both = refl
+  same_length [] (y ∷ ys) both = absurd (no_left (both 0))
+  same_length (x ∷ xs) [] both = absurd (no_right (both 0))
+  same_length (x ∷ xs) (y ∷ ys) both = ap suc (same_length xs ys (λ k. both (suc k)))
+
+-- ---- a world in which no layout is live
+-- no word is moved to its own place
+never_moved : (a : ℕ) (o : Option Instr) → is_moved_address a a o ≡ false
+never_moved a None = refl
+never_moved a (Some (instr.Auipc rd imm)) = by_rd (rd == 0) (a == a) (eq-eqb a a refl)
+  where
+    by_rd : (x y : Bool) → y ≡ true → (not x && not y) ≡ false
+    by_rd true y e = refl
+    by_rd false y e = ap not e
+never_moved a (Some i) = refl
+
+no_layout_at : (w : Replaced) (a : ℕ) → w.lives ≡ [] → is_layout_step (code_of w) a ≡ false
+unfolding is_layout_step live_at
+no_layout_at w a none = by_region (in_range w.image.region a)
+  where
+    by_region : (b : Bool) → is_layout_point (code_of w) a (if b then option_map here_point (live_at w.lives a) else Some (Start a)) ≡ false
+    by_region true = rw (none) refl
+    by_region false = never_moved a (read (code_of w).text a)
+
+no_layout : (w : Replaced) (h : ℕ) → w.lives ≡ [] → is_layout (kind_of h w) ≡ false
+unfolding stepped
+no_layout w h none = by_both (is_some w.machine.outcome) (is_live (hart_in w.machine.harts h).status)
+  where
+    by_both : (over live : Bool) → is_layout (if over then kind.Over else (if live && is_layout_step (code_of w) (hart_in w.machine.harts h).pc then kind.Layout else kind.Real)) ≡ false
+    by_both true live = refl
+    by_both false false = refl
+    by_both false true = rw (no_layout_at w (hart_in w.machine.harts h).pc none) refl
+
+-- so a real step is one step
+real_is_step : (w : Replaced) (h : ℕ) → w.lives ≡ [] → real_step_of h w ≡ step_of h w
+unfolding until_real
+real_is_step w h none = rw (no_layout w h none) refl
+
+over_is : (w : Replaced) (h : ℕ) → is_some w.machine.outcome ≡ true → kind_of h w ≡ kind.Over
+unfolding stepped
+over_is w h over = rw (over) refl
+
+going_is : (w : Replaced) (h : ℕ) → w.lives ≡ [] → is_some w.machine.outcome ≡ false → kind_of h w ≡ kind.Real
+unfolding stepped
+going_is w h none going = by_live (is_live (hart_in w.machine.harts h).status)
+  where
+    by_live : (live : Bool) → (if is_some w.machine.outcome then kind.Over else (if live && is_layout_step (code_of w) (hart_in w.machine.harts h).pc then kind.Layout else kind.Real)) ≡ kind.Real
+    by_live true = rw (going, no_layout_at w (hart_in w.machine.harts h).pc none) refl
+    by_live false = rw (going) refl
+
+module _ (laws : Laws) where
+  -- ---- any run
+  -- a step, and what comes after it
+  then_follows : (k : Stepped) (h : ℕ) (w u v : Replaced) (later : List ℕ) (o : State) → u.image ≡ w.image
+      → ((o : State) → Stands u o → Stands v (original_run u.image later o))
+      → Stands u (original_after k w.image h o) → Stands v (original_run w.image (of_real k h ++ later) o)
+  then_follows k h w u v later o same rest at =
+      let e : original_run w.image (of_real k h ++ later) o ≡ original_run w.image later (original_after k w.image h o) =
+      run_append w.image (of_real k h) later o ∙ ap (original_run w.image later) (sym (meanwhile k w.image h o)) in
+      rw (e) (subst (λ p. Stands v (original_run p later (original_after k w.image h o))) same (rest (original_after k w.image h o) at))
+
+  steps_follow : (atoms : List Atom) (hs : List ℕ) (w v : Replaced) (o : State) → AreSteps atoms → IsRun atoms hs w v → Stands w o → Stands v (original_run w.image hs o)
+  steps_follow [] hs w v o steps r at = rw (r.0, r.1) at
+  steps_follow (a_step h ∷ more) hs w v o steps r at =
+      let same : r.0.image ≡ w.image = ap (λ (x : Replaced). x.image) r.2 ∙ (step_unmoved h w).image in
+      let next : Stands r.0 (original_after (kind_of h w) w.image h o) = subst (λ x. Stands x (original_after (kind_of h w) w.image h o)) (sym r.2) (laws.step h w o at) in
+      rw (r.3) (then_follows (kind_of h w) h w r.0 v r.1 o same (λ o at. steps_follow more r.1 r.0 v o steps r.4 at) next)
+  steps_follow (a_real_step h ∷ more) hs w v o steps r at =
+      let same : r.0.image ≡ w.image = ap (λ (x : Replaced). x.image) r.2 ∙ (real_unmoved 3 h w).image in
+      let next : Stands r.0 (original_after (real_kind_of h w) w.image h o) = subst (λ x. Stands x (original_after (real_kind_of h w) w.image h o)) (sym r.2) (laws.real h w o at) in
+      rw (r.3) (then_follows (real_kind_of h w) h w r.0 v r.1 o same (λ o at. steps_follow more r.1 r.0 v o steps r.4 at) next)
+  steps_follow (a_replacement plan ∷ more) hs w v o steps r at = absurd steps
+
+  pub event_follows : (e : Event) (hs : List ℕ) (w v : Replaced) (o : State) → CanObey e w → IsWorld v → IsRun (atoms_of e w) hs w v → Stands w o → Stands v (original_run w.image hs o)
+  event_follows (Steps h n) hs w v o can sound r at = steps_follow (replicate n (a_step h)) hs w v o (steps_are n h) r at
+  event_follows (Real h n) hs w v o can sound r at = steps_follow (replicate n (a_real_step h)) hs w v o (reals_are n h) r at
+  event_follows (Till n) hs w v o can sound r at = steps_follow (turns n w) hs w v o (turns_are n w) r at
+  event_follows (Given plan) hs w v o can sound r at =
+      let later : hs ≡ [] = r.3 ∙ r.4.0 in
+      rw (later) (subst (λ x. Stands x o) (sym r.4.1) (laws.replaced plan w r.0 o can (subst IsWorld r.4.1 sound) r.2.1 at))
+
+  -- the image is the same after any event
+  event_image : (e : Event) (hs : List ℕ) (w v : Replaced) → IsRun (atoms_of e w) hs w v → v.image ≡ w.image
+  event_image (Steps h n) hs w v r = (run_unmoved (replicate n (a_step h)) hs w v (steps_are n h) r).image
+  event_image (Real h n) hs w v r = (run_unmoved (replicate n (a_real_step h)) hs w v (reals_are n h) r).image
+  event_image (Till n) hs w v r = (run_unmoved (turns n w) hs w v (turns_are n w) r).image
+  event_image (Given plan) hs w v r = ap (λ (x : Replaced). x.image) r.4.1 ∙ replaced_image plan w r.0 r.2.1
+
+  pub plays_follow : (es : List Event) (hs : List ℕ) (w v : Replaced) (o : State) → AreReady es w → Plays es hs w v → Stands w o → Stands v (original_run w.image hs o)
+  plays_follow [] hs w v o ready r at = rw (r.0, r.1) at
+  plays_follow (e ∷ es) hs w v o ready r at =
+      let split : original_run w.image hs o ≡ original_run w.image r.2 (original_run w.image r.1 o) = ap (λ x. original_run w.image x o) r.5 ∙ run_append w.image r.1 r.2 o in
+      let same : r.0.image ≡ w.image = event_image e r.1 w r.0 r.3 in
+      let next : Stands r.0 (original_run w.image r.1 o) = event_follows e r.1 w r.0 o (can_obey e es w ready) r.4 r.3 at in
+      let rest : Stands v (original_run r.0.image r.2 (original_run w.image r.1 o)) =
+      plays_follow es r.2 r.0 v (original_run w.image r.1 o) (ready_next e es w r.0 ready (r.1, r.3)) r.6 next in
+      rw (split) (subst (λ p. Stands v (original_run p r.2 (original_run w.image r.1 o))) same rest)
+
+  -- ---- a run that moves nothing
+  -- every step is one of the original machine
+  step_plainly : (h : ℕ) (w : Replaced) (o : State) → w.lives ≡ [] → Stands w o → Stands (step_of h w) (original_step w.image h o)
+  step_plainly h w o none at = by_outcome (is_some w.machine.outcome) refl
+    where
+      by_outcome : (b : Bool) → is_some w.machine.outcome ≡ b → Stands (step_of h w) (original_step w.image h o)
+      by_outcome true over =
+          let ended : is_some o.outcome ≡ true = ap is_some (sym at.related.states.outcome) ∙ over in
+          rw (stays w.image (h ∷ []) o ended) (subst (λ k. Stands (step_of h w) (original_after k w.image h o)) (over_is w h over) (laws.step h w o at))
+      by_outcome false going = subst (λ k. Stands (step_of h w) (original_after k w.image h o)) (going_is w h none going) (laws.step h w o at)
+
+  -- what is known of a run that moves nothing
+  pub record Plainly (w v : Replaced) (o : State) : Type 0 where
+    pub image : v.image ≡ w.image
+    pub lives : v.lives ≡ []
+    pub related : Stands v o
+
+  one_plainly : (h : ℕ) (w : Replaced) (o : State) → w.lives ≡ [] → Stands w o → Plainly w (step_of h w) (original_step w.image h o)
+  one_plainly h w o none at = record { image = (step_unmoved h w).image; lives = (step_unmoved h w).lives ∙ none; related = step_plainly h w o none at }
+
+  next_plainly : (w u v : Replaced) (o : State) (hs : List ℕ) → Plainly w u o → Plainly u v (original_run u.image hs o) → Plainly w v (original_run w.image hs o)
+  next_plainly w u v o hs a b = record {
+    image = b.image ∙ a.image;
+    lives = b.lives;
+    related = subst (λ p. Stands v (original_run p hs o)) a.image b.related;
+  }
+
+  steps_plainly : (n h : ℕ) (hs : List ℕ) (w v : Replaced) (o : State) → IsRun (replicate n (a_step h)) hs w v → w.lives ≡ [] → Stands w o → Plainly w v (original_run w.image (replicate n h) o)
+  steps_plainly zero h hs w v o r none at = rw (r.1) (record { image = refl; lives = none; related = at })
+  steps_plainly (suc n) h hs w v o r none at =
+      let one : Plainly w r.0 (original_step w.image h o) = subst (λ x. Plainly w x (original_step w.image h o)) (sym r.2) (one_plainly h w o none at) in
+      next_plainly w r.0 v (original_step w.image h o) (replicate n h) one (steps_plainly n h r.1 r.0 v (original_step w.image h o) r.4 one.lives one.related)
+
+  real_plainly : (h : ℕ) (w : Replaced) (o : State) → w.lives ≡ [] → Stands w o → Plainly w (real_step_of h w) (original_step w.image h o)
+  real_plainly h w o none at = subst (λ x. Plainly w x (original_step w.image h o)) (sym (real_is_step w h none)) (one_plainly h w o none at)
+
+  reals_plainly : (n h : ℕ) (hs : List ℕ) (w v : Replaced) (o : State) → IsRun (replicate n (a_real_step h)) hs w v → w.lives ≡ [] → Stands w o → Plainly w v (original_run w.image (replicate n h) o)
+  reals_plainly zero h hs w v o r none at = rw (r.1) (record { image = refl; lives = none; related = at })
+  reals_plainly (suc n) h hs w v o r none at =
+      let one : Plainly w r.0 (original_step w.image h o) = subst (λ x. Plainly w x (original_step w.image h o)) (sym r.2) (real_plainly h w o none at) in
+      next_plainly w r.0 v (original_step w.image h o) (replicate n h) one (reals_plainly n h r.1 r.0 v (original_step w.image h o) r.4 one.lives one.related)
+
+  stretched_plainly : (hs : List ℕ) (w : Replaced) (o : State) → w.lives ≡ [] → Stands w o → Plainly w (stretched hs w) (original_run w.image hs o)
+  stretched_plainly [] w o none at = record { image = refl; lives = none; related = at }
+  stretched_plainly (h ∷ hs) w o none at =
+      let one : Plainly w (real_step_of h w) (original_step w.image h o) = real_plainly h w o none at in
+      next_plainly w (real_step_of h w) (stretched hs (real_step_of h w)) (original_step w.image h o) hs one (stretched_plainly hs (real_step_of h w) (original_step w.image h o) one.lives one.related)
+
+  -- what comes after one turn
+  after_turn : (ks : List ℕ) (more : List Atom) (hs : List ℕ) (w v : Replaced) → IsRun (stretch ks ++ more) hs w v → (later : List ℕ) × IsRun more later (stretched ks w) v
+  after_turn [] more hs w v r = (hs, r)
+  after_turn (k ∷ ks) more hs w v r = subst (λ x. (later : List ℕ) × IsRun more later (stretched ks x) v) r.2 (after_turn ks more r.1 r.0 v r.4)
+
+  turns_plainly : (n : ℕ) (hs : List ℕ) (w v : Replaced) (o : State) → IsRun (turns n w) hs w v → w.lives ≡ [] → Stands w o → Plainly w v (original_run w.image (original.turns w.image n o) o)
+  turns_plainly zero hs w v o r none at = rw (r.1) (record { image = refl; lives = none; related = at })
+  turns_plainly (suc n) hs w v o r none at =
+      let same : harts_in w ≡ original.turn o = ap (range_with_len 0) (same_length w.machine.harts o.harts at.related.states.harts) in
+      let u : Replaced = stretched (harts_in w) w in
+      let x : State = original_run w.image (original.turn o) o in
+      let one : Plainly w u x = subst (λ ks. Plainly w u (original_run w.image ks o)) same (stretched_plainly (harts_in w) w o none at) in
+      let rest : (later : List ℕ) × IsRun (turns n u) later u v = after_turn (harts_in w) (turns n u) hs w v r in
+      let two : Plainly u v (original_run u.image (original.turns u.image n x) x) = turns_plainly n rest.0 u v x rest.1 one.lives one.related in
+      rw (run_append w.image (original.turn o) (original.turns w.image n x) o)
+      (next_plainly w u v x (original.turns w.image n x) one (subst (λ p. Plainly u v (original_run u.image (original.turns p n x) x)) one.image two))
+
+  event_plainly : (e : Event) (hs : List ℕ) (w v : Replaced) (o : State) → plan_count e ≡ 0 → IsRun (atoms_of e w) hs w v → w.lives ≡ [] → Stands w o
+      → Plainly w v (original_run w.image (original.harts_of w.image e o) o)
+  event_plainly (Steps h n) hs w v o none r lives at = steps_plainly n h hs w v o r lives at
+  event_plainly (Real h n) hs w v o none r lives at = reals_plainly n h hs w v o r lives at
+  event_plainly (Till n) hs w v o none r lives at = turns_plainly n hs w v o r lives at
+  event_plainly (Given plan) hs w v o none r lives at = absurd (omega (arith, none))
+
+  pub plays_plainly : (es : List Event) (hs : List ℕ) (w v : Replaced) (o : State) → sum_by plan_count es ≡ 0 → Plays es hs w v → w.lives ≡ [] → Stands w o
+      → Plainly w v (original_run w.image (original.schedule w.image es o) o)
+  plays_plainly [] hs w v o none r lives at = rw (r.1) (record { image = refl; lives = lives; related = at })
+  plays_plainly (e ∷ es) hs w v o none r lives at =
+      let sum = sum_by-cons plan_count e es in
+      let first : List ℕ = original.harts_of w.image e o in
+      let x : State = original_run w.image first o in
+      let one : Plainly w r.0 x = event_plainly e r.1 w r.0 o (omega (arith, sum, none)) r.3 lives at in
+      let two : Plainly r.0 v (original_run r.0.image (original.schedule r.0.image es x) x) = plays_plainly es r.2 r.0 v x (omega (arith, sum, none)) r.6 one.lives one.related in
+      rw (run_append w.image first (original.schedule w.image es x) o)
+      (next_plainly w r.0 v x (original.schedule w.image es x) one (subst (λ p. Plainly r.0 v (original_run r.0.image (original.schedule p es x) x)) one.image two))

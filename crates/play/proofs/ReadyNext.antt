@@ -1,0 +1,126 @@
+-- Events that can be done, one after the other.
+use Rattle.std.proofs.Common.{◌≡◌, ◌⊎◌, inl, inr, ℕ, zero, suc, ◌+◌, ◌<◌, ◌≤◌, List, [], ◌∷◌, ◌++◌, replicate, length, drop, get_or, refl, sym, subst, ap, ◌∙◌, arith}
+use Rattle.std.specs.Prelude.{sum_by, true, false, if◌then◌else◌, Bool}
+use Rattle.std.specs.List.{AllByRecursion}
+use Rattle.std.proofs.lemmas.List.{drop_more}
+use Rattle.std.proofs.lemmas.List.Sums.{sum_by-cons}
+use Rattle.plans.specs.declared.plan.Moved.{Moved}
+use Rattle.image.specs.Picture.{Picture}
+use Rattle.layout.specs.Laid.{Laid}
+use Rattle.sched_log.specs.Script.{plan_count}
+use Rattle.sched_log.specs.Ranges.{AreInRange, IsInRange}
+use Rattle.sched_log.specs.declared.event.Event.{Event}
+use Rattle.sched_log.specs.declared.event.Event.TheVariants.{Steps, Real, Till, Given}
+use Rattle.sim_laws.specs.Steps.{is_layout}
+use Rattle.world.specs.Worlds.{Replaced, kind_of, step_of, started}
+use Rattle.world.specs.Replacing.{Replaces, over, done, refused}
+use Rattle.world.specs.Runs.{Atom, a_step, a_real_step, a_replacement, Makes, IsRun, stretch, until_real, real_step_of}
+use Rattle.play.specs.Events.{harts_in, stretched, turns, atoms_of, Runs}
+use Rattle.play.specs.Ready.{CanMove, CanObey, AreReady}
+
+-- image and live layouts are as before
+pub record SameCode (w v : Replaced) : Type 0 where
+  pub image : v.image ≡ w.image
+  pub lives : v.lives ≡ w.lives
+
+unmoved : (w : Replaced) → SameCode w w
+unmoved w = record { image = refl; lives = refl }
+
+both_unmoved : (w u v : Replaced) → SameCode w u → SameCode u v → SameCode w v
+both_unmoved w u v a b = record { image = b.image ∙ a.image; lives = b.lives ∙ a.lives }
+
+pub step_unmoved : (h : ℕ) (w : Replaced) → SameCode w (step_of h w)
+unfolding step_of
+step_unmoved h w = record { image = refl; lives = refl }
+
+pub real_unmoved : (n h : ℕ) (w : Replaced) → SameCode w (until_real n h w)
+unfolding until_real
+real_unmoved zero h w = unmoved w
+real_unmoved (suc n) h w = by_kind (is_layout (kind_of h w)) (real_unmoved n h (step_of h w))
+  where
+    by_kind : (b : Bool) → SameCode (step_of h w) (until_real n h (step_of h w)) → SameCode w (if b then until_real n h (step_of h w) else step_of h w)
+    by_kind true later = both_unmoved w (step_of h w) (until_real n h (step_of h w)) (step_unmoved h w) later
+    by_kind false later = step_unmoved h w
+
+-- atoms that move no code
+abbrev pub AreSteps : List Atom → Type 0
+AreSteps [] = Unit {0}
+AreSteps (a_step h ∷ more) = AreSteps more
+AreSteps (a_real_step h ∷ more) = AreSteps more
+AreSteps (a_replacement plan ∷ more) = ⊥
+
+pub run_unmoved : (atoms : List Atom) (hs : List ℕ) (w v : Replaced) → AreSteps atoms → IsRun atoms hs w v → SameCode w v
+run_unmoved [] hs w v steps r = subst (SameCode w) (sym r.1) (unmoved w)
+run_unmoved (a_step h ∷ more) hs w v steps r =
+    both_unmoved w r.0 v (subst (SameCode w) (sym r.2) (step_unmoved h w)) (run_unmoved more r.1 r.0 v steps r.4)
+run_unmoved (a_real_step h ∷ more) hs w v steps r =
+    both_unmoved w r.0 v (subst (SameCode w) (sym r.2) (real_unmoved 3 h w)) (run_unmoved more r.1 r.0 v steps r.4)
+run_unmoved (a_replacement plan ∷ more) hs w v steps r = absurd steps
+
+pub steps_are : (n h : ℕ) → AreSteps (replicate n (a_step h))
+steps_are zero h = tt
+steps_are (suc n) h = steps_are n h
+
+pub reals_are : (n h : ℕ) → AreSteps (replicate n (a_real_step h))
+reals_are zero h = tt
+reals_are (suc n) h = reals_are n h
+
+stretch_are : (hs : List ℕ) (more : List Atom) → AreSteps more → AreSteps (stretch hs ++ more)
+stretch_are [] more steps = steps
+stretch_are (h ∷ hs) more steps = stretch_are hs more steps
+
+pub turns_are : (n : ℕ) (w : Replaced) → AreSteps (turns n w)
+turns_are zero w = tt
+turns_are (suc n) w = stretch_are (harts_in w) (turns n (stretched (harts_in w) w)) (turns_are n (stretched (harts_in w) w))
+
+-- a replacement leaves the image
+pub replaced_image : (plan : List Moved) (w v : Replaced) → Replaces plan w v → v.image ≡ w.image
+replaced_image plan w v (over ended is) = ap (λ (x : Replaced). x.image) is
+replaced_image plan w v (done goes is) = ap (λ (x : Replaced). x.image) is.is
+replaced_image plan w v (refused why room goes is_why is) = ap (λ (x : Replaced). x.image) is
+
+-- ---- events
+pub can_obey : (e : Event) (es : List Event) (w : Replaced) → AreReady (e ∷ es) w → CanObey e w
+can_obey (Steps h n) es w ready = tt
+can_obey (Real h n) es w ready = tt
+can_obey (Till n) es w ready = tt
+can_obey (Given plan) es w ready =
+    let sum = sum_by-cons plan_count (Given plan) es in
+    record { fine = ready.each.0.1; alone = ready.alone (omega (arith, sum)) }
+
+-- events that move nothing leave the rest ready
+still_ready : (e : Event) (es : List Event) (w u : Replaced) → AreReady (e ∷ es) w → plan_count e ≡ 0 → SameCode w u → AreReady es u
+still_ready e es w u ready none same =
+    let sum = sum_by-cons plan_count e es in
+    let few = ready.few in
+    record {
+      each = subst (λ p. AllByRecursion (IsInRange p) es) (sym same.image) ready.each.1;
+      few = omega (arith, sum, few);
+      alone = λ some. same.lives ∙ ready.alone (omega (arith, sum, some));
+    }
+
+pub ready_next : (e : Event) (es : List Event) (w u : Replaced) → AreReady (e ∷ es) w → Runs (atoms_of e w) w u → AreReady es u
+ready_next (Steps h n) es w u ready r = still_ready (Steps h n) es w u ready refl (run_unmoved (replicate n (a_step h)) r.0 w u (steps_are n h) r.1)
+ready_next (Real h n) es w u ready r = still_ready (Real h n) es w u ready refl (run_unmoved (replicate n (a_real_step h)) r.0 w u (reals_are n h) r.1)
+ready_next (Till n) es w u ready r = still_ready (Till n) es w u ready refl (run_unmoved (turns n w) r.0 w u (turns_are n w) r.1)
+ready_next (Given plan) es w u ready r =
+    let run : IsRun (a_replacement plan ∷ []) r.0 w u = r.1 in
+    let same : u.image ≡ w.image = ap (λ (x : Replaced). x.image) run.4.1 ∙ replaced_image plan w run.0 run.2.1 in
+    let sum = sum_by-cons plan_count (Given plan) es in
+    let few = ready.few in
+    record {
+      each = subst (λ p. AllByRecursion (IsInRange p) es) (sym same) ready.each.1;
+      few = omega (arith, sum, few);
+      alone = λ some. absurd (omega (arith, sum, some, few));
+    }
+
+-- a script's events at the start
+pub ready_first : (image : Picture) (input : List ℕ) (events : List Event) → AreInRange image events → AreReady events (started image input)
+ready_first image input events range = record { each = range.each; few = range.plans; alone = λ some. refl }
+
+-- ---- places in a list of events
+pub can_obey_at : (es : List Event) (i : ℕ) (d : Event) (w : Replaced) → i < length es → AreReady (drop i es) w → CanObey (get_or es i d) w
+can_obey_at es i d w below ready = can_obey (get_or es i d) (drop (i + 1) es) w (subst (λ x. AreReady x w) (drop_more es i d below) ready)
+
+pub ready_after : (es : List Event) (i : ℕ) (d : Event) (w u : Replaced) → i < length es → AreReady (drop i es) w → Runs (atoms_of (get_or es i d) w) w u → AreReady (drop (i + 1) es) u
+ready_after es i d w u below ready r = ready_next (get_or es i d) (drop (i + 1) es) w u (subst (λ x. AreReady x w) (drop_more es i d below) ready) r

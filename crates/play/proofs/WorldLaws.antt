@@ -1,0 +1,103 @@
+-- The laws of a world.
+use Rattle.std.proofs.Common.{◌≡◌, ◌≢◌, ℕ, zero, suc, Bool, true, false, List, [], ◌∷◌, Ok, Err, refl, sym, ap, subst, ◌∙◌, is_some}
+use Rattle.std.specs.Prelude.{if◌then◌else◌}
+use Rattle.image.specs.Picture.{Picture, IsKept}
+use Rattle.guest_sys.specs.State.{IsOrderly}
+use Rattle.plans.specs.declared.plan.Moved.{Moved}
+use Rattle.machine.specs.States.{State}
+use Rattle.machine.specs.Start.{start_of}
+use Rattle.machine.specs.Steps.{original_step}
+use Rattle.machine.proofs.Stays.{stays}
+use Rattle.patcher.specs.Texts.{AreTexts}
+use Rattle.patcher.proofs.Spans.{are_texts}
+use Rattle.sim_laws.specs.declared.stepped.Stepped.{Stepped}
+use Rattle.sim_laws.specs.declared.stepped.Stepped.TheVariants as kind
+use Rattle.sim_laws.specs.Steps.{original_after, is_layout}
+use Rattle.sim_laws.proofs.Orderly.{replaced_orderly, start_orderly}
+use Rattle.world.specs.Worlds.{Replaced, Related, started, kind_of, step_of, code_of}
+use Rattle.world.specs.Replacing.{IsReplaced, Replaces, over, done, refused}
+use Rattle.world.specs.Runs.{until_real, real_kind_of, real_step_of}
+use Rattle.world.proofs.Following.{step_follows, never_layout, real_over, real_follows}
+use Rattle.world.proofs.Replacement.{attempt_related}
+use Rattle.world.proofs.Starting.{started_related}
+use Rattle.sched_log.specs.declared.facts.Refusal.{Refusal}
+use Rattle.sched_log.specs.declared.facts.Refusal.TheVariants as refusal
+use Rattle.play.specs.Events.{IsWorld}
+use Rattle.play.specs.Ready.{CanMove}
+use Rattle.play.proofs.Laws.{Stands, Laws, OneResult}
+use Rattle.play.proofs.OneReplacement.{MadeSmall, one_replacement}
+
+step_orderly : (h : ℕ) (w : Replaced) → IsOrderly w.machine.system → IsOrderly (step_of h w).machine.system
+unfolding step_of
+step_orderly h w orderly = replaced_orderly w.image (code_of w) h w.machine orderly
+
+until_orderly : (n h : ℕ) (w : Replaced) → IsOrderly w.machine.system → IsOrderly (until_real n h w).machine.system
+unfolding until_real
+until_orderly zero h w orderly = orderly
+until_orderly (suc n) h w orderly = by_kind (is_layout (kind_of h w)) (until_orderly n h (step_of h w) (step_orderly h w orderly))
+  where
+    by_kind : (b : Bool) → IsOrderly (until_real n h (step_of h w)).machine.system → IsOrderly (if b then until_real n h (step_of h w) else step_of h w).machine.system
+    by_kind true later = later
+    by_kind false later = step_orderly h w orderly
+
+start_law : (image : Picture) (input : List ℕ) → IsKept image → Stands (started image input) (start_of image input)
+start_law image input kept = record { related = started_related image input kept; orderly = start_orderly image input kept }
+
+step_law : (h : ℕ) (w : Replaced) (o : State) → Stands w o → Stands (step_of h w) (original_after (kind_of h w) w.image h o)
+step_law h w o at = record {
+  related = step_follows w (step_of h w) h (kind_of h w) at.orderly refl refl o at.related;
+  orderly = step_orderly h w at.orderly;
+}
+
+-- a real step is one of the original machine, or none after the end
+by_real_kind : (k : Stepped) (w : Replaced) (h : ℕ) (o : State) → Stands w o → k ≡ real_kind_of h w → original_step w.image h o ≡ original_after k w.image h o
+by_real_kind kind.Real w h o at is = refl
+by_real_kind kind.Layout w h o at is = absurd (never_layout w h kind.Layout at.related.sound is refl)
+by_real_kind kind.Over w h o at is =
+    let ended : is_some w.machine.outcome ≡ true = (real_over w h kind.Over at.related.sound is).0 refl in
+    stays w.image (h ∷ []) o (ap is_some (sym at.related.states.outcome) ∙ ended)
+
+real_law : (h : ℕ) (w : Replaced) (o : State) → Stands w o → Stands (real_step_of h w) (original_after (real_kind_of h w) w.image h o)
+real_law h w o at = record {
+  related = subst (Related (real_step_of h w)) (by_real_kind (real_kind_of h w) w h o at refl) (real_follows w (real_step_of h w) h at.orderly refl o at.related);
+  orderly = until_orderly 3 h w at.orderly;
+}
+
+-- a replacement leaves the machine
+replaced_machine : (plan : List Moved) (w v : Replaced) → Replaces plan w v → v.machine ≡ w.machine
+replaced_machine plan w v (over ended is) = ap (λ (x : Replaced). x.machine) is
+replaced_machine plan w v (done goes is) = ap (λ (x : Replaced). x.machine) is.is
+replaced_machine plan w v (refused why room goes is_why is) = ap (λ (x : Replaced). x.machine) is
+
+texts_of : (w : Replaced) (o : State) → Stands w o → AreTexts w.text
+texts_of w o at =
+    let sound = at.related.sound in
+    are_texts w.text w.image.texts sound.placed.text (record { fit = sound.kept.texts_fit; rise = sound.kept.texts_rise })
+
+-- a replacement leaves the original machine where it was
+replaced_law : (plan : List Moved) (w v : Replaced) (o : State) → CanMove plan w → IsWorld v → Replaces plan w v → Related w o → Related v o
+replaced_law plan w v o can sound (over ended is) at = attempt_related plan w v true (Ok tt) can.alone sound is o at
+replaced_law plan w v o can sound (done goes is) at = attempt_related plan w v false (Ok tt) can.alone sound is o at
+replaced_law plan w v o can sound (refused (refusal.RegionFull n m) room goes why is) at = attempt_related plan w v false (Err (refusal.RegionFull n m)) can.alone sound (why, is) o at
+replaced_law plan w v o can sound (refused (refusal.BranchReach a t) room goes why is) at = attempt_related plan w v false (Err (refusal.BranchReach a t)) can.alone sound (why, is) o at
+replaced_law plan w v o can sound (refused (refusal.Unreadable g y) room goes why is) at = attempt_related plan w v false (Err (refusal.Unreadable g y)) can.alone sound (why, is) o at
+replaced_law plan w v o can sound (refused refusal.NoMemory room goes why is) at = absurd (room refl)
+
+pub laws : Laws
+laws = record {
+  start = start_law;
+  step = step_law;
+  real = real_law;
+  replaced = λ plan w v o can sound is at. record {
+    related = replaced_law plan w v o can sound is at.related;
+    orderly = subst (λ m. IsOrderly m.system) (sym (replaced_machine plan w v is)) at.orderly;
+  };
+}
+
+module _ (small : (plan : List Moved) (w v : Replaced) (made : IsReplaced plan w v) → MadeSmall plan w v made) where
+  pub one_by : OneResult
+  one_by plan w u v o can at a b = one_replacement plan w u v (small plan w) can.alone (texts_of w o at) a b
+
+-- the words of a replacement have 32 bits
+pub one_result : OneResult
+one_result = one_by (λ plan w v made. (made.short_calls, made.short_words))

@@ -1,0 +1,45 @@
+-- The run that a list of events asks for, on a machine whose code is moved. Source: this project.
+use Rattle.std.specs.Prelude.{◌≡◌, ℕ, zero, suc, List, [], ◌∷◌, ◌++◌, length, replicate}
+use Rattle.std.specs.List.{range_with_len}
+use Rattle.sched_log.specs.declared.event.Event.{Event}
+use Rattle.sched_log.specs.declared.event.Event.TheVariants.{Steps, Real, Till, Given}
+use Rattle.world.specs.Worlds.{Replaced, IsSound}
+use Rattle.world.specs.Runs.{Atom, a_step, a_real_step, a_replacement, real_step_of, stretch, IsRun}
+
+-- the harts that are there, ascending
+abbrev pub harts_in : Replaced → List ℕ
+harts_in w = range_with_len 0 (length w.machine.harts)
+
+-- a real step of each of these harts in turn
+abbrev pub stretched : List ℕ → Replaced → Replaced
+stretched [] w = w
+stretched (h ∷ hs) w = stretched hs (real_step_of h w)
+
+-- n turns: in each the harts that are there at its start make one real step, in the order of their numbers
+abbrev pub turns : ℕ → Replaced → List Atom
+turns zero w = []
+turns (suc n) w = stretch (harts_in w) ++ turns n (stretched (harts_in w) w)
+
+-- what an event asks of a world, one at a time
+abbrev pub atoms_of : Event → Replaced → List Atom
+atoms_of (Steps h n) w = replicate n (a_step h)
+atoms_of (Real h n) w = replicate n (a_real_step h)
+atoms_of (Till n) w = turns n w
+atoms_of (Given plan) w = a_replacement plan ∷ []
+
+-- a world keeps what each world keeps: among the rest, its code renders the image
+abbrev pub IsWorld : Replaced → Type 0
+IsWorld w = IsSound w.image w.text w.lives w.numbers w.free
+
+-- the world v is w after these events in turn, and these are the harts of the real steps
+abbrev pub Plays : List Event → List ℕ → Replaced → Replaced → Type 0
+Plays [] hs w v = (hs ≡ []) × (v ≡ w)
+Plays (e ∷ es) hs w v =
+    (u : Replaced) × (first : List ℕ) × (later : List ℕ) × IsRun (atoms_of e w) first w u × IsWorld u × (hs ≡ first ++ later) × Plays es later u v
+
+-- for some harts
+abbrev pub Runs : List Atom → Replaced → Replaced → Type 0
+Runs atoms w v = (hs : List ℕ) × IsRun atoms hs w v
+
+abbrev pub Played : List Event → Replaced → Replaced → Type 0
+Played events w v = (hs : List ℕ) × Plays events hs w v
