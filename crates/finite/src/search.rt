@@ -56,6 +56,7 @@ pub trait Spanned: Keyed {
 }
 
 /// The place of the element that covers a number, by a binary search.
+#[inline(never)]
 pub fn place_covering<T: Spanned>(items: &[T], at: u64) -> Option<usize>
     requires ordered { All (λ x. T.key x ≤ T.end x) items.now }
     requires fits { All (λ x. T.end x < 2 ^ 64) items.now }
@@ -72,4 +73,22 @@ pub fn place_covering<T: Spanned>(items: &[T], at: u64) -> Option<usize>
         return None;
     }
     Some(i)
+}
+
+/// The same, where one place is tried before the search.
+#[inline(always)]
+pub fn place_near<T: Spanned>(items: &[T], near: usize, at: u64) -> Option<usize>
+    requires ordered { All (λ x. T.key x ≤ T.end x) items.now }
+    requires fits { All (λ x. T.end x < 2 ^ 64) items.now }
+    requires apart { AllPairs (λ x y. T.end x ≤ T.key y) items.now }
+    ensures place { result ≡ position (λ x. nat_le (T.key x) at && nat_lt at (T.end x)) items.now }
+    ensures within { IfSome result (λ i. i < length items.now) }
+{
+    if near < items.len() {
+        let item = &items[near];
+        if item.key() <= at && at < item.end() {
+            return Some(near);
+        }
+    }
+    place_covering(items, at)
 }

@@ -29,6 +29,7 @@ pub struct Hart {
 
 impl Hart {
     /// What a register holds.
+    #[inline]
     pub fn reg(&self, r: Reg) -> Value
         ensures { result ≡ reg self.now.regs r }
     {
@@ -40,6 +41,7 @@ impl Hart {
     }
 
     /// Writes a register. A write to `x0` is lost.
+    #[inline]
     pub fn set_reg(&mut self, r: Reg, v: Value)
         ensures { self.new ≡ record self.old { regs = with_reg self.old.regs r v } }
     {
@@ -49,6 +51,7 @@ impl Hart {
     }
 
     /// Goes on to the next word.
+    #[inline]
     pub fn advance(&mut self)
         ensures { self.new ≡ record self.old { pc = after self.old.pc } }
     {
@@ -57,6 +60,7 @@ impl Hart {
 }
 
 /// Ends a jump that may be made: links the next word in a register, where one is named, and goes to `to`.
+#[inline]
 pub fn finish_jump(hart: &mut Hart, to: u64, link: Option<Reg>)
     ensures { hart.new ≡ jumped hart.old to link }
 {

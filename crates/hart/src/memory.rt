@@ -80,6 +80,7 @@ pub fn store<M: GuestStore, O: Origins>(
 }
 
 /// LR: a load that reserves its block.
+#[inline(never)]
 #[tactic(auto, unfolding(crate::specs::Effects::hart_after, crate::specs::Effects::memory_after, crate::specs::Effects::answer_of, crate::specs::Effects::IsWrite))]
 pub fn load_reserved<M: GuestStore, O: Origins>(
     hart: &mut Hart,
@@ -116,6 +117,7 @@ fn write_refusal<M: GuestStore>(mem: &M, width: Width, at: u64) -> Option<Access
 }
 
 /// SC: a store where the hart holds the block. The reservation is given up in any case.
+#[inline(never)]
 #[tactic(auto, unfolding(crate::specs::Effects::hart_after, crate::specs::Effects::memory_after, crate::specs::Effects::answer_of, crate::specs::Effects::IsWrite))]
 pub fn store_conditional<M: GuestStore, O: Origins>(
     hart: &mut Hart,
@@ -151,6 +153,7 @@ pub fn store_conditional<M: GuestStore, O: Origins>(
 }
 
 /// An AMO: loads, and stores what the operation gives of that and of `b`.
+#[inline(never)]
 #[tactic(auto, unfolding(crate::specs::Effects::hart_after, crate::specs::Effects::memory_after, crate::specs::Effects::answer_of, crate::specs::Effects::IsWrite))]
 pub fn exchange<M: GuestStore, O: Origins>(
     hart: &mut Hart,

@@ -102,6 +102,7 @@ impl Harts {
     }
 
     /// Does an instruction of hart `h`, but for what only the machine can.
+    #[inline(always)]
     pub fn act<O: Origins>(&mut self, h: u32, memory: &mut FlatMem, origins: &O, i: &Instr) -> Acted
         requires made { h < length self.old }
         requires word { HasWord i.now }
@@ -115,6 +116,7 @@ impl Harts {
     }
 
     /// Ends a jump of hart `h`, as `hart::finish_jump` does.
+    #[inline]
     pub fn jump(&mut self, h: u32, to: u64, link: Option<Reg>)
         requires { h < length self.old }
         ensures { self.new ≡ slice_set self.old h (jumped (hart_in self.old h) to link) }

@@ -65,20 +65,28 @@ fn is_indirect(i: &Instr) -> bool
 }
 
 /// What ends the run in place of a jump to an original address, if anything does.
-fn fault_of_jump(image: &Image, indirect: bool, pc: u64, to: u64, by: Tag) -> Option<Outcome>
-    ensures { result ≡ fault_of_jump image.now indirect pc to by }
+#[inline(always)]
+fn fault_of_jump<O: Origins>(
+    image: &Image,
+    origins: &O,
+    indirect: bool,
+    pc: u64,
+    to: u64,
+    by: Tag,
+) -> Option<Outcome>
+    ensures { result ≡ fault_of_jump image.now indirect (O.origin origins.now pc) to by }
 {
     if to % 4 != 0 {
         return Some(Outcome::Trap {
             cause: 0,
-            pc,
+            pc: origins.origin(pc),
             value: to,
         });
     }
     if by == Tag::Plain && !image.in_text(to) {
         return Some(Outcome::Trap {
             cause: 1,
-            pc,
+            pc: origins.origin(pc),
             value: to,
         });
     }
@@ -217,6 +225,7 @@ impl Machine {
     }
 
     /// A jump of hart `h` to `to`, by a plain number or a link.
+    #[inline(always)]
     #[tactic(auto, unfolding(crate::specs::Steps::by_answer))]
     fn jump<O: Origins>(
         &mut self,
@@ -231,7 +240,7 @@ impl Machine {
         requires { h < length self.old.harts }
         ensures { self.new ≡ by_answer (O.origin origins.now) image.now h indirect (Acted.Jump to by link) self.old }
     {
-        let pc = origins.origin(self.harts.at(h).pc);
+        let pc = self.harts.at(h).pc;
         let target = original(
             Value {
                 number: to,
@@ -239,7 +248,7 @@ impl Machine {
             },
             origins,
         );
-        match fault_of_jump(image, indirect, pc, target, by) {
+        match fault_of_jump(image, origins, indirect, pc, target, by) {
             None => self.harts.jump(h, to, link),
             Some(outcome) => self.outcome = Some(outcome),
         }
@@ -280,6 +289,7 @@ impl Machine {
     }
 
     /// One instruction of hart `h`. After want of memory all is as before.
+    #[inline(always)]
     #[tactic(auto, unfolding(crate::specs::Steps::after_effect, crate::specs::Steps::by_answer))]
     fn act<O: Origins>(
         &mut self,
@@ -318,6 +328,7 @@ impl Machine {
     }
 
     /// What hart `h` does by the word that was fetched for it.
+    #[inline(always)]
     #[tactic(auto, unfolding(crate::specs::Steps::on_fetched))]
     fn obey<O: Origins>(
         &mut self,
@@ -366,6 +377,7 @@ impl Machine {
 
     /// One step of a live hart on the word that was fetched for it, and the outcome after it; no word is a fetch outside the
     /// text. After want of memory all is as before.
+    #[inline(always)]
     pub fn step_fetched<O: Origins>(
         &mut self,
         image: &Image,

@@ -5,7 +5,7 @@ ghost use Rattle.image.specs.declared.ranges.TextRange.{TextRange as TextData};
 ghost use Rattle.image.specs.Texts.{covers, text_start, text_end, word_in, word_at};
 ghost use Rattle.patcher.specs.Texts.{AreTexts, range_with, text_with};
 
-use finite::search::{Keyed, Spanned, place_covering};
+use finite::search::{Keyed, Spanned, place_near};
 use image::picture::Image;
 use image::ranges::TextRange;
 use oc_base::fault::NoMemory;
@@ -126,6 +126,7 @@ impl TextNow {
 
     /// The word of text at an address. There is none exactly where no word of text stands.
     #[tactic(auto, unfolding(image::specs::Texts::word_at), using(finite::proofs::Finding::found_at, finite::proofs::Finding::find_nowhere))]
+    #[inline(always)]
     pub fn word(&self, at: u64) -> Option<u32>
         ensures { result ≡ word_at self.now at }
     {
@@ -144,13 +145,14 @@ impl TextNow {
 }
 
 /// The place of the range that covers an address.
+#[inline(always)]
 fn place_of(sections: &[Section], at: u64) -> Option<usize>
     requires { AreTexts sections.now }
     ensures place { result ≡ position (covers at) sections.now }
     ensures within { IfSome result (λ i. i < length sections.now) }
     ensures covers { IfSome result (λ i. (d : TextData) → covers at (slice_index_or sections.now i d) ≡ true) }
 {
-    place_covering(sections, at)
+    place_near(sections, 0, at)
 }
 
 fn sections_of(alloc: Global, ranges: &[TextRange]) -> Result<Vec<Section>, NoMemory>

@@ -23,6 +23,7 @@ use word::{
 ///
 /// Reserved encodings and the words of other extensions are `None`. A hint is a word of its row like any other, and
 /// FENCE is read with any operands.
+#[inline(always)]
 #[tactic(auto, unfolding(rv_isa::specs::Reads::Reads))]
 pub fn decode(w: u32) -> Option<Instr>
     ensures is { result ≡ decoded w }
@@ -42,6 +43,7 @@ pub fn one_reading(w: u32)
     let _ = decode(w);
 }
 
+#[inline(always)]
 #[tactic(auto, unfolding(rv_isa::specs::Reads::Reads))]
 fn instruction(w: u32) -> Option<Instr>
     ensures reads { IfSome result (Reads w) }
@@ -87,6 +89,7 @@ fn instruction(w: u32) -> Option<Instr>
 }
 
 /// Of OP and OP-32.
+#[inline(always)]
 #[tactic(auto, unfolding(rv_isa::specs::Reads::Reads))]
 fn alu(w: u32) -> Option<Instr>
     requires { (opcode w ≡ 0x33) ⊎ (opcode w ≡ 0x3b) }
@@ -103,6 +106,7 @@ fn alu(w: u32) -> Option<Instr>
 }
 
 /// Of OP-IMM and OP-IMM-32.
+#[inline(always)]
 #[tactic(auto, unfolding(rv_isa::specs::Reads::Reads))]
 fn immediate(w: u32) -> Option<Instr>
     requires { (opcode w ≡ 0x13) ⊎ (opcode w ≡ 0x1b) }
@@ -123,6 +127,7 @@ fn immediate(w: u32) -> Option<Instr>
 }
 
 /// Of OP-IMM and OP-IMM-32, with a shift amount.
+#[inline(always)]
 #[tactic(auto, unfolding(rv_isa::specs::Reads::Reads))]
 fn shift_immediate(w: u32) -> Option<Instr>
     requires code { (opcode w ≡ 0x13) ⊎ (opcode w ≡ 0x1b) }
@@ -140,6 +145,7 @@ fn shift_immediate(w: u32) -> Option<Instr>
 }
 
 /// The amount of a shift.
+#[inline(always)]
 fn amount(op: ShiftOp, w: u32) -> Shift
     ensures { result ≡ amount_of op w }
 {
@@ -150,6 +156,7 @@ fn amount(op: ShiftOp, w: u32) -> Shift
 }
 
 /// Of BRANCH.
+#[inline(always)]
 #[tactic(auto, unfolding(rv_isa::specs::Reads::Reads))]
 fn branch(w: u32) -> Option<Instr>
     requires { opcode w ≡ 0x63 }
@@ -166,6 +173,7 @@ fn branch(w: u32) -> Option<Instr>
 }
 
 /// Of LOAD.
+#[inline(always)]
 #[tactic(auto, unfolding(rv_isa::specs::Reads::Reads))]
 fn load(w: u32) -> Option<Instr>
     requires { opcode w ≡ 0x03 }
@@ -182,6 +190,7 @@ fn load(w: u32) -> Option<Instr>
 }
 
 /// Of STORE.
+#[inline(always)]
 #[tactic(auto, unfolding(rv_isa::specs::Reads::Reads))]
 fn store(w: u32) -> Option<Instr>
     requires { opcode w ≡ 0x23 }
@@ -198,6 +207,7 @@ fn store(w: u32) -> Option<Instr>
 }
 
 /// Of AMO, with the width that funct3 says.
+#[inline(always)]
 #[tactic(auto, unfolding(rv_isa::specs::Reads::Reads))]
 fn atomic(w: u32, wide: bool) -> Option<Instr>
     requires code { opcode w ≡ 0x2f }

@@ -14,6 +14,7 @@ use crate::word::{bits, funct3, funct7, opcode};
 use rv_isa::instr::{AluOp, AmoOp, Cond, ImmOp, ShiftOp, Width};
 
 /// Of OP and OP-32.
+#[inline]
 pub fn alu_op(w: u32) -> Option<AluOp>
     ensures found { IfSome result (λ op. Has w (alu_row op)) }
     ensures only { (op : AluOp) → Has w (alu_row op) → result ≡ Some op }
@@ -52,6 +53,7 @@ pub fn alu_op(w: u32) -> Option<AluOp>
 }
 
 /// Of OP-IMM and OP-IMM-32, with an immediate.
+#[inline]
 pub fn imm_op(w: u32) -> Option<ImmOp>
     ensures found { IfSome result (λ op. Has w (imm_row op)) }
     ensures only { (op : ImmOp) → Has w (imm_row op) → result ≡ Some op }
@@ -69,6 +71,7 @@ pub fn imm_op(w: u32) -> Option<ImmOp>
 }
 
 /// Of OP-IMM and OP-IMM-32, with a shift amount.
+#[inline]
 pub fn shift_op(w: u32) -> Option<ShiftOp>
     ensures found { IfSome result (λ op. Has w (shift_row op)) }
     ensures only { (op : ShiftOp) → Has w (shift_row op) → result ≡ Some op }
@@ -85,6 +88,7 @@ pub fn shift_op(w: u32) -> Option<ShiftOp>
 }
 
 /// Of BRANCH.
+#[inline]
 pub fn cond(w: u32) -> Option<Cond>
     requires { opcode w ≡ 0x63 }
     ensures found { IfSome result (λ c. Has w (branch_row c)) }
@@ -102,6 +106,7 @@ pub fn cond(w: u32) -> Option<Cond>
 }
 
 /// Of LOAD.
+#[inline]
 pub fn load_width(w: u32) -> Option<Width>
     requires { opcode w ≡ 0x03 }
     ensures found { IfSome result (λ width. Has w (load_row width)) }
@@ -120,6 +125,7 @@ pub fn load_width(w: u32) -> Option<Width>
 }
 
 /// Of STORE.
+#[inline]
 pub fn store_width(w: u32) -> Option<Width>
     requires { opcode w ≡ 0x23 }
     ensures width { IfSome result IsStoreWidth }
@@ -136,6 +142,7 @@ pub fn store_width(w: u32) -> Option<Width>
 }
 
 /// Of AMO, but for LR and SC.
+#[inline]
 pub fn amo_op(w: u32) -> Option<AmoOp>
     requires { opcode w ≡ 0x2f }
     ensures found { IfSome result (λ op. Has w (amo_row op)) }

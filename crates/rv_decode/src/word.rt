@@ -7,6 +7,7 @@ use rv_isa::fields::{Imm12, Imm20, OffB, OffJ, Reg, Shift};
 use rv_isa::instr::Order;
 
 /// Bits `hi` down to `lo`, fewer than 32 of them.
+#[inline]
 pub fn bits(w: u32, hi: u32, lo: u32) -> u32
     requires order { lo ≤ hi }
     requires part { hi < 31 + lo }
@@ -17,6 +18,7 @@ pub fn bits(w: u32, hi: u32, lo: u32) -> u32
 }
 
 /// A number below `2 * half` as two's complement: the upper half stands for the negative numbers.
+#[inline]
 fn signed(n: u32, half: u32) -> i32
     requires most { half ≤ 2 ^ 20 }
     requires small { n < 2 * half }
@@ -30,36 +32,42 @@ fn signed(n: u32, half: u32) -> i32
     }
 }
 
+#[inline]
 pub fn opcode(w: u32) -> u32
     ensures { result ≡ opcode w }
 {
     bits(w, 6, 0)
 }
 
+#[inline]
 pub fn funct3(w: u32) -> u32
     ensures { result ≡ funct3 w }
 {
     bits(w, 14, 12)
 }
 
+#[inline]
 pub fn funct7(w: u32) -> u32
     ensures { result ≡ funct7 w }
 {
     bits(w, 31, 25)
 }
 
+#[inline]
 pub fn rd(w: u32) -> Reg
     ensures { result ≡ rd_of w }
 {
     Reg::new(bits(w, 11, 7) as u8).unwrap()
 }
 
+#[inline]
 pub fn rs1(w: u32) -> Reg
     ensures { result ≡ rs1_of w }
 {
     Reg::new(bits(w, 19, 15) as u8).unwrap()
 }
 
+#[inline]
 pub fn rs2(w: u32) -> Reg
     ensures { result ≡ rs2_of w }
 {
@@ -67,6 +75,7 @@ pub fn rs2(w: u32) -> Reg
 }
 
 /// A shift amount of 6 bits.
+#[inline]
 pub fn shift(w: u32) -> Shift
     ensures { result ≡ bits w 25 20 }
 {
@@ -74,12 +83,14 @@ pub fn shift(w: u32) -> Shift
 }
 
 /// A shift amount of 5 bits.
+#[inline]
 pub fn shift_w(w: u32) -> Shift
     ensures { result ≡ bits w 24 20 }
 {
     Shift::new(bits(w, 24, 20) as i32).unwrap()
 }
 
+#[inline]
 pub fn order(w: u32) -> Order
     ensures { result ≡ order_of w }
 {
@@ -89,6 +100,7 @@ pub fn order(w: u32) -> Order
     }
 }
 
+#[inline]
 pub fn imm_i(w: u32) -> Imm12
     ensures { result ≡ imm_i w }
 {
@@ -96,6 +108,7 @@ pub fn imm_i(w: u32) -> Imm12
 }
 
 /// The pieces of the immediate of an S instruction, put together.
+#[inline]
 fn pieces_s(w: u32) -> u32
     ensures sum { result ≡ bits w 31 25 * 2 ^ 5 + bits w 11 7 }
     ensures small { result < 2 ^ 12 }
@@ -103,12 +116,14 @@ fn pieces_s(w: u32) -> u32
     bits(w, 11, 7) | (bits(w, 31, 25) << 5)
 }
 
+#[inline]
 pub fn imm_s(w: u32) -> Imm12
     ensures { result ≡ imm_s w }
 {
     Imm12::new(signed(pieces_s(w), 1 << 11)).unwrap()
 }
 
+#[inline]
 pub fn imm_u(w: u32) -> Imm20
     ensures { result ≡ imm_u w }
 {
@@ -116,6 +131,7 @@ pub fn imm_u(w: u32) -> Imm20
 }
 
 /// The pieces of the immediate of a B instruction, put together.
+#[inline]
 fn pieces_b(w: u32) -> u32
     ensures sum { result ≡ bits w 31 31 * 2 ^ 12 + bits w 7 7 * 2 ^ 11 + bits w 30 25 * 2 ^ 5 + bits w 11 8 * 2 ^ 1 }
     ensures small { result < 2 ^ 13 }
@@ -123,6 +139,7 @@ fn pieces_b(w: u32) -> u32
     (bits(w, 11, 8) << 1) | (bits(w, 30, 25) << 5) | (bits(w, 7, 7) << 11) | (bits(w, 31, 31) << 12)
 }
 
+#[inline]
 pub fn imm_b(w: u32) -> OffB
     ensures { result ≡ imm_b w }
 {
@@ -130,6 +147,7 @@ pub fn imm_b(w: u32) -> OffB
 }
 
 /// The pieces of the immediate of a J instruction, put together.
+#[inline]
 fn pieces_j(w: u32) -> u32
     ensures sum { result ≡ bits w 31 31 * 2 ^ 20 + bits w 19 12 * 2 ^ 12 + bits w 20 20 * 2 ^ 11 + bits w 30 21 * 2 ^ 1 }
     ensures small { result < 2 ^ 21 }
@@ -140,6 +158,7 @@ fn pieces_j(w: u32) -> u32
         | (bits(w, 31, 31) << 20)
 }
 
+#[inline]
 pub fn imm_j(w: u32) -> OffJ
     ensures { result ≡ imm_j w }
 {

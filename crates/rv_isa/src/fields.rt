@@ -7,7 +7,7 @@ use std::marker::Model;
 /// A register, `x0` to `x31`.
 #[derive(Clone, Copy, Debug, PartialEq, Eq)]
 pub struct Reg {
-    number: u8,
+    number: u32,
 }
 
 impl Model for Reg {
@@ -29,7 +29,9 @@ impl Reg {
         ensures value { IfSome result (λ r. r ≡ n) }
     {
         if n < 32 {
-            Some(Reg { number: n })
+            Some(Reg {
+                number: u32::from(n),
+            })
         } else {
             None
         }
@@ -40,14 +42,14 @@ impl Reg {
         ensures value { result ≡ self }
         ensures range { self < 32 }
     {
-        self.number
+        self.number as u8
     }
 }
 
 /// How many places a shift moves its operand.
 #[derive(Clone, Copy, Debug, PartialEq, Eq)]
 pub struct Shift {
-    amount: u8,
+    amount: u32,
 }
 
 impl Model for Shift {
@@ -69,7 +71,7 @@ impl Shift {
         ensures value { IfSome result (λ s. pos s ≡ v) }
     {
         if (0..=63).contains(&v) {
-            Some(Shift { amount: v as u8 })
+            Some(Shift { amount: v as u32 })
         } else {
             None
         }
@@ -80,7 +82,7 @@ impl Shift {
         ensures value { result ≡ pos self }
         ensures range { self < 64 }
     {
-        i32::from(self.amount)
+        self.amount as i32
     }
 }
 

@@ -1,6 +1,6 @@
 //! The words that are fetched, and a step on them.
 
-ghost use Rattle.std.specs.Prelude.{◌≡◌, ◌<◌, OnOk, OnErr, length, true};
+ghost use Rattle.std.specs.Prelude.{◌≡◌, ◌<◌, IfOk, OnOk, OnErr, length, true, if◌then◌else◌};
 ghost use Rattle.image.specs.Texts.{word_at};
 ghost use Rattle.layout.specs.Points as points;
 ghost use Rattle.machine.specs.Harts.{is_live, hart_in};
@@ -33,6 +33,7 @@ fn word_in(image: &Image, text: &TextNow, lives: &[Layout], at: u64) -> Option<u
 }
 
 /// Whether a step at an address is one of layouts alone.
+#[inline(always)]
 #[tactic(auto, unfolding(sim_laws::specs::Origins::is_layout_step, layout::specs::Points::read), using(crate::proofs::Following::never_moved))]
 fn is_layout_step(image: &Image, lives: &[Layout], at: u64) -> bool
     ensures { (text : List TextData) → result ≡ is_layout_step (code_in image.now text lives.now) at }
@@ -66,6 +67,7 @@ pub fn kind_in(machine: &Machine, image: &Image, lives: &[Layout], h: u32) -> St
 }
 
 /// Makes the step of a live hart of a run that goes on.
+#[inline(always)]
 #[tactic(auto, using(machine::proofs::HartLists::live_made))]
 fn step_live(
     machine: &mut Machine,
@@ -108,6 +110,35 @@ pub fn step_in(
         return Ok(());
     }
     step_live(machine, image, text, lives, h)
+}
+
+/// Makes the step of hart `h` where it isn't one of layouts alone, and says what it is.
+#[inline(always)]
+#[tactic(auto, unfolding(sim_laws::specs::Steps::stepped, sim_laws::specs::Steps::replaced_step, machine::specs::Steps::step_with), using(machine::proofs::HartLists::live_made))]
+pub fn other_step_in(
+    machine: &mut Machine,
+    image: &Image,
+    text: &TextNow,
+    lives: &[Layout],
+    h: u32,
+) -> Result<Stepped, NoMemory>
+    ensures kind { IfOk result (λ kind. kind ≡ stepped (code_in image.now text.now lives.now) h machine.old) }
+    ensures step { OnOk result (machine.new ≡ (if is_layout (stepped (code_in image.now text.now lives.now) h machine.old) then machine.old else replaced_step image.now (code_in image.now text.now lives.now) h machine.old)) }
+    ensures err { OnErr result (machine.new ≡ machine.old) }
+{
+    if machine.outcome().is_some() {
+        return Ok(Stepped::Over);
+    }
+    if !machine.is_live(h) {
+        return Ok(Stepped::Real);
+    }
+    if is_layout_step(image, lives, machine.hart(h).pc) {
+        return Ok(Stepped::Layout);
+    }
+    let Ok(()) = step_live(machine, image, text, lives, h) else {
+        return Err(NoMemory);
+    };
+    Ok(Stepped::Real)
 }
 
 /// Whether a step was one of layouts alone.

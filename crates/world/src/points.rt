@@ -33,6 +33,7 @@ fn point_in(l: &Layout, at: u64) -> Option<Point>
 }
 
 /// The word that a live layout has at an address.
+#[inline(never)]
 pub fn live_word(lives: &[Layout], at: u64) -> Option<u32>
     ensures { result ≡ option_map here_word (live_at lives.now at) }
 {
@@ -45,6 +46,7 @@ pub fn live_word(lives: &[Layout], at: u64) -> Option<u32>
 }
 
 /// What an address of a live layout stands for.
+#[inline(never)]
 pub fn live_point(lives: &[Layout], at: u64) -> Option<Point>
     ensures { result ≡ option_map here_point (live_at lives.now at) }
 {

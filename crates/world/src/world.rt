@@ -1,6 +1,6 @@
 //! The machine whose code is moved, and its step.
 
-ghost use Rattle.std.specs.Prelude.{◌≡◌, ◌≢◌, ◌<◌, ◌↔◌, ℕ, [], length, replicate, true, None, IfOk, IfErr, OnOk, OnErr, is_some};
+ghost use Rattle.std.specs.Prelude.{◌≡◌, ◌≢◌, ◌<◌, ◌↔◌, if◌then◌else◌, ℕ, [], length, replicate, true, None, IfOk, IfErr, OnOk, OnErr, is_some};
 ghost use Rattle.guest_sys.specs.Calls.{output};
 ghost use Rattle.guest_sys.specs.State.{IsOrderly};
 ghost use Rattle.machine.specs.Harts.{is_live, hart_in};
@@ -14,7 +14,7 @@ ghost use Rattle.world.specs.Runs.{moved, IsMoved, real_step_of, real_kind_of, r
 ghost use Rattle.world.specs.Replacing.{Refuses, IsPlacement, IsReplaced, refused_as, RefusedBy, Attempts};
 ghost use Rattle.world.specs.Told.{facts_of};
 
-use crate::code::{is_layout, is_over, kind_in, step_in};
+use crate::code::{is_layout, is_over, kind_in, other_step_in, step_in};
 use crate::counts::{Counts, more};
 use crate::live::{add, aim};
 use crate::place::{Placement, is_no_memory, place};
@@ -290,18 +290,37 @@ impl World {
         self.counts = counts;
     }
 
+    /// The step of hart `h` where it isn't one of layouts alone, and what it is. After want of memory all is as before.
+    #[inline(always)]
+    #[tactic(auto, unfolding(crate::specs::Worlds::step_of))]
+    fn make_other_step(&mut self, h: u32) -> Result<Stepped, NoMemory>
+        ensures kind { IfOk result (λ kind. kind ≡ kind_of h self.old) }
+        ensures step { OnOk result (self.new ≡ (if is_layout (kind_of h self.old) then self.old else step_of h self.old)) }
+        ensures err { OnErr result (self.new ≡ self.old) }
+    {
+        let Ok(kind) = other_step_in(&mut self.machine, &self.image, &self.text, &self.lives, h)
+        else {
+            return Err(NoMemory);
+        };
+        if is_layout(kind) {
+            return Ok(kind);
+        }
+        self.counts.count(kind);
+        Ok(kind)
+    }
+
+    #[inline(always)]
     fn make_real_step(&mut self, h: u32) -> Result<Stepped, NoMemory>
         ensures kind { IfOk result (λ kind. kind ≡ real_kind_of h self.old) }
         ensures step { OnOk result (self.new ≡ real_step_of h self.old) }
         ensures err { OnErr result (self.new ≡ self.old) }
     {
-        let kind = self.kind(h);
+        let Ok(kind) = self.make_other_step(h) else {
+            return Err(NoMemory);
+        };
         if is_layout(kind) {
             return self.past_layout(h);
         }
-        let Ok(()) = self.make_step(h, kind) else {
-            return Err(NoMemory);
-        };
         Ok(kind)
     }
 
