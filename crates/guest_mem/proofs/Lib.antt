@@ -1,7 +1,9 @@
 pub mod BitLaws
+pub mod ChangeLaws
 pub mod FlatLaws
 pub mod Laws
 pub mod LinkLaws
 pub mod PageLaws
+pub mod PagedLaws
 pub mod PutLaws
 pub mod Reading

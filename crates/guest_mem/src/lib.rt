@@ -11,6 +11,7 @@ mod clearing;
 pub mod fault;
 pub mod flat;
 pub mod page;
+pub mod paged;
 pub mod store;
 #[cfg(test)]
 mod tests;
