@@ -97,10 +97,22 @@ set_page ps i n p h =
     ]
 
 -- a property of each page, after one has been set
-pub set_each : (P : ℕ → Page → Type 0) (ps : List Page) (i : ℕ) (p : Page) → i < length ps → P i p → (n : ℕ) → (n ≡ i → ⊥) ⊎ (n ≡ i) → P n (page_of ps n) ⊎ (n ≡ i) → P n (page_of (set ps i p) n)
-set_each P ps i p h here n (inl other) (inl there) = subst (P n) (sym (set_page ps i n p h ∙ rw (ne_eqb n i other) refl)) there
-set_each P ps i p h here n (inl other) (inr same) = absurd (other same)
-set_each P ps i p h here n (inr same) there = subst (P n) (sym (set_page ps i n p h ∙ rw (eq-eqb n i same) refl)) (subst (λ (k : ℕ). P k p) (sym same) here)
+pub each_set : (P : ℕ → Page → Type 0) (ps : List Page) (i : ℕ) (p : Page) → i < length ps → P i p → ((n : ℕ) → (n ≡ i → ⊥) → P n (page_of ps n)) → (n : ℕ) → P n (page_of (set ps i p) n)
+each_set P ps i p h here there n = elim (cases_eq n i) [
+  | inl same ↦ subst (P n) (sym (set_page ps i n p h ∙ rw (eq-eqb n i same) refl)) (subst (λ (k : ℕ). P k p) (sym same) here)
+  | inr other ↦ subst (P n) (sym (set_page ps i n p h ∙ rw (ne_eqb n i other) refl)) (there n other)
+]
+
+pub same_trans : (p q r : Page) → IsSamePage p q → IsSamePage q r → IsSamePage p r
+same_trans p q r a b = record {
+  bytes = λ v j f lt. b.bytes v j f lt ∙ a.bytes v j f lt;
+  links = λ v f. b.links v f ∙ a.links v f;
+  rights = λ right j lt. b.rights right j lt ∙ a.rights right j lt;
+}
+
+-- each page is read alike, also after one has been made another that is
+pub each_same : (ps qs : List Page) (i : ℕ) (p : Page) → i < length qs → ((n : ℕ) → IsSamePage (page_of ps n) (page_of qs n)) → IsSamePage (page_of qs i) p → (n : ℕ) → IsSamePage (page_of ps n) (page_of (set qs i p) n)
+each_same ps qs i p h all is = each_set (λ n q. IsSamePage (page_of ps n) q) qs i p h (same_trans (page_of ps i) (page_of qs i) p (all i) is) (λ n _. all n)
 
 -- a reading f of page n, where page i has been changed
 pub set_read : {X : Type 0} (f : Page → X) (ps : List Page) (i n : ℕ) (p : Page) (b : Bool) (y : X) → i < length ps → (n ≡ i → f p ≡ cond b y (f (page_of ps i))) → ((n ≡ i → ⊥) → b ≡ false) → f (page_of (set ps i p) n) ≡ cond b y (f (page_of ps n))
@@ -242,10 +254,4 @@ paged_rights right ps q (suc n) h =
 
 -- one page made another that is read alike
 pub same_but : (ps : List Page) (i : ℕ) (p : Page) → i < length ps → IsSamePage (page_of ps i) p → paged_memory (set ps i p) ≡ paged_memory ps
-same_but ps i p h is = same_paged ps (set ps i p) (λ n. set_same n)
-  where
-    set_same : (n : ℕ) → IsSamePage (page_of ps n) (page_of (set ps i p) n)
-    set_same n = elim (cases_eq n i) [
-      | inl same ↦ subst (IsSamePage (page_of ps n)) (sym (set_page ps i n p h ∙ rw (eq-eqb n i same) refl)) (subst (λ (k : ℕ). IsSamePage (page_of ps k) p) (sym same) is)
-      | inr other ↦ subst (IsSamePage (page_of ps n)) (sym (set_page ps i n p h ∙ rw (ne_eqb n i other) refl)) (as_it_is (page_of ps n))
-    ]
+same_but ps i p h is = same_paged ps (set ps i p) (each_set (λ n q. IsSamePage (page_of ps n) q) ps i p h is (λ n _. as_it_is (page_of ps n)))

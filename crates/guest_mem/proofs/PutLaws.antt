@@ -162,7 +162,7 @@ fill_none : (m : Table) (lo : ℕ) (f : ℕ → ℕ) → fill m lo 0 f ≡ m
 unfolding fill
 fill_none m lo f = refl
 
-mark_none : (s : Places) (lo : ℕ) (p : ℕ → Bool) → mark s lo 0 p ≡ s
+pub mark_none : (s : Places) (lo : ℕ) (p : ℕ → Bool) → mark s lo 0 p ≡ s
 unfolding mark
 mark_none s lo p = refl
 

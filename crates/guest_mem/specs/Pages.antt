@@ -1,5 +1,5 @@
 -- What the entry of a page stands for. Each page has the words 0 to 511 and the bytes 0 to 4095.
-use Rattle.std.specs.Prelude.{◌≡◌, ℕ, zero, suc, ◌+◌, ◌*◌, ◌/◌, ◌<◌, Bool, true, false, ◌&&◌, cond, nat_eq, List, get_or, ◌⊎◌}
+use Rattle.std.specs.Prelude.{◌≡◌, ℕ, zero, suc, ◌+◌, ◌*◌, ◌/◌, ◌<◌, Bool, true, false, ◌&&◌, cond, nat_eq, if◌then◌else◌, List, [], ◌∷◌, get_or, ◌⊎◌}
 use Rattle.finite.specs.Maps.{within}
 use Rattle.link_tags.specs.Values.{is_link}
 use Rattle.guest_mem.specs.declared.words.Word.{Word}
@@ -75,3 +75,12 @@ pub record IsPageChanged (cleared : Bool) (lo n : ℕ) (given : Rights) (old new
 abbrev pub IsReady : Page → ℕ → ℕ → Rights → Type 0
 IsReady (page.Zero old) lo n rights = ((lo ≡ 0) × (n ≡ 4096)) ⊎ (old ≡ rights)
 IsReady (page.Full f) lo n rights = Unit {0}
+
+-- the links among the n words from k of a page whose first word is the word first, with their addresses and numbers
+unfoldable pub full_links : Full → ℕ → ℕ → ℕ → List (ℕ × ℕ)
+full_links f first k zero = []
+full_links f first k (suc n) = if bit_in f.links k then (8 * (first + k), get_or f.words k 0) ∷ full_links f first (k + 1) n else full_links f first (k + 1) n
+
+abbrev pub page_links : Page → ℕ → ℕ → ℕ → List (ℕ × ℕ)
+page_links (page.Zero r) first k n = []
+page_links (page.Full f) first k n = full_links f.value first k n

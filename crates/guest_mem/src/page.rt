@@ -1,10 +1,10 @@
 //! A page: 4096 bytes, the tags of its 512 words, and the rights of each byte.
-ghost use Rattle.std.specs.Prelude.{◌≡◌, ℕ, ◌-◌, ◌*◌, ◌+◌, ◌%◌, ◌<◌, ◌≤◌, OnOk, OnErr, true, false, cond, nat_eq, length, get_or};
+ghost use Rattle.std.specs.Prelude.{◌≡◌, ℕ, ◌-◌, ◌*◌, ◌+◌, ◌%◌, ◌<◌, ◌≤◌, OnOk, OnErr, true, false, cond, nat_eq, length, get_or, ◌++◌};
 ghost use Rattle.finite.specs.Maps.{within};
 ghost use Rattle.link_tags.specs.Values.{is_link};
 ghost use Rattle.guest_mem.specs.Bits.{bit_in, all_bits_in};
 ghost use Rattle.guest_mem.specs.Memory.{bytes_of, no_word};
-ghost use Rattle.guest_mem.specs.Pages.{right_of, full_byte, full_right, page_byte, page_link, page_right, page_rights, is_full, IsPageWith, IsSamePage, IsFullChanged, IsPageChanged, IsReady};
+ghost use Rattle.guest_mem.specs.Pages.{right_of, full_byte, full_right, page_byte, page_link, page_right, page_rights, is_full, full_links, page_links, IsPageWith, IsSamePage, IsFullChanged, IsPageChanged, IsReady};
 
 use crate::bits::{all_set, bit, no_bits, same_bits, set_bit, set_bits};
 use crate::bytes::{bytes, number};
@@ -167,6 +167,43 @@ impl Full {
     }
 }
 
+impl Full {
+    fn add_links(&self, found: &mut Vec<(u64, u64)>, first: u64) -> Result<(), NoMemory>
+        requires { first + 512 ≤ 0x0200_0000 }
+        ensures { OnOk result (found.new.items ≡ found.old.items ++ full_links self.now first 0 512) }
+    {
+        for row in 0..8 {
+            if self.links[row] != 0 {
+                let Ok(()) = self.add_row(found, first, row) else {
+                    return Err(NoMemory);
+                };
+            }
+        }
+        Ok(())
+    }
+
+    /// Adds the links among the 64 words of a row.
+    fn add_row(
+        &self,
+        found: &mut Vec<(u64, u64)>,
+        first: u64,
+        row: usize,
+    ) -> Result<(), NoMemory>
+        requires first { first + 512 ≤ 0x0200_0000 }
+        requires row { row < 8 }
+        ensures { OnOk result (found.new.items ≡ found.old.items ++ full_links self.now first (64 * row) 64) }
+    {
+        for k in 64 * row..64 * row + 64 {
+            if bit(&self.links, k) {
+                let Ok(()) = found.push((8 * (first + k as u64), self.words[k])) else {
+                    return Err(NoMemory);
+                };
+            }
+        }
+        Ok(())
+    }
+}
+
 impl Page {
     #[inline]
     pub fn word(&self, k: usize) -> Word
@@ -270,6 +307,17 @@ impl Page {
         full.set_word(k, word);
         *self = Page::Full(full);
         Ok(())
+    }
+
+    /// Adds the links of the page, whose first word is the word `first`, with their addresses and numbers.
+    pub fn add_links(&self, found: &mut Vec<(u64, u64)>, first: u64) -> Result<(), NoMemory>
+        requires { first + 512 ≤ 0x0200_0000 }
+        ensures { OnOk result (found.new.items ≡ found.old.items ++ page_links self.now first 0 512) }
+    {
+        match self {
+            Page::Zero(_) => Ok(()),
+            Page::Full(full) => full.add_links(found, first),
+        }
     }
 
     /// Whether `change` of the bytes from `lo` up to `hi` takes no memory.

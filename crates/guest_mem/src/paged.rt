@@ -3,7 +3,7 @@ ghost use Rattle.std.specs.Prelude.{◌≡◌, ℕ, ◌+◌, ◌-◌, ◌*◌, �
 ghost use Rattle.finite.specs.Maps.{nowhere};
 ghost use Rattle.guest_mem.specs.Memory.{blank};
 ghost use Rattle.guest_mem.specs.Pages.{is_full};
-ghost use Rattle.guest_mem.specs.Paged.{page_of, paged_memory, part_from, part_to, AreReady, changed};
+ghost use Rattle.guest_mem.specs.Paged.{page_of, paged_memory, part_from, part_to, AreReady, changed, links_from};
 
 use crate::fault::{Access, StoreFault};
 use crate::page::{Page, Rights};
@@ -211,4 +211,105 @@ impl WordStore for PagedMem {
         // A look at a field brings what the type keeps into the proof.
         let _ = self.pages.len();
     }
+}
+
+impl GuestStore for PagedMem {
+    ghost contents = { λ s. s.contents };
+
+    ghost room = { λ s. s.room };
+
+    #[inline]
+    fn load<O: Origins>(&self, at: u64, width: Width, origins: &O) -> Result<Value, Access> {
+        access::load(self, at, width, origins)
+    }
+
+    #[inline]
+    fn store<O: Origins>(
+        &mut self,
+        at: u64,
+        width: Width,
+        v: Value,
+        origins: &O,
+    ) -> Result<(), StoreFault> {
+        access::store(self, at, width, v, origins)
+    }
+
+    fn take_bytes<O: Origins>(
+        &self,
+        alloc: Global,
+        at: u64,
+        len: u64,
+        origins: &O,
+    ) -> Result<Vec<u8>, StoreFault> {
+        transfer::take_bytes(alloc, self, at, len, origins)
+    }
+
+    fn put_bytes<O: Origins>(
+        &mut self,
+        at: u64,
+        bytes: &[u8],
+        origins: &O,
+    ) -> Result<(), StoreFault> {
+        transfer::put_bytes(self, at, bytes, origins)
+    }
+
+    fn make_room(&mut self, range: Range) -> Result<(), NoMemory> {
+        if range.from >= range.to {
+            return Ok(());
+        }
+        let first = (range.from / PAGE) as usize;
+        let end = ((range.to + (PAGE - 1)) / PAGE) as usize;
+        let Ok(()) = make_full(self.alloc, &mut self.pages, first, end) else {
+            return Err(NoMemory);
+        };
+        Ok(())
+    }
+
+    fn map(&mut self, range: Range, read: bool, write: bool) -> Result<(), NoMemory> {
+        self.change(range, Rights { read, write }, true)
+    }
+
+    fn unmap(&mut self, range: Range) -> Result<(), NoMemory> {
+        GuestStore::map(self, range, false, false)
+    }
+
+    fn set_rights(&mut self, range: Range, read: bool, write: bool) -> Result<(), NoMemory> {
+        self.change(range, Rights { read, write }, false)
+    }
+
+    fn links(&self, alloc: Global) -> Result<Vec<(u64, u64)>, NoMemory> {
+        links_in(alloc, &self.pages)
+    }
+
+    fn set_link(&mut self, at: u64, number: u64) {
+        access::set_link(self, at, number);
+    }
+
+    fn may_read(&self, at: u64, len: u64) -> bool {
+        WordStore::bounded(self);
+        access::all_have_right(self, Right::Read, at, len)
+    }
+
+    fn may_write(&self, at: u64, len: u64) -> bool {
+        WordStore::bounded(self);
+        access::all_have_right(self, Right::Write, at, len)
+    }
+
+    fn is_link(&self, at: u64) -> bool {
+        WordStore::word(self, at / 8).tag == Tag::Link
+    }
+}
+
+/// The links in pages, with their addresses and numbers.
+fn links_in(alloc: Global, pages: &[Page]) -> Result<Vec<(u64, u64)>, NoMemory>
+    requires { length pages.now ≡ 65536 }
+    ensures { IfOk result (λ v. v.items ≡ links_from pages.now 0 33554432) }
+{
+    let mut found = Vec::new(alloc);
+    for i in 0..PAGES {
+        let Ok(()) = pages[i as usize].add_links(&mut found, PAGE_WORDS * i) else {
+            return Err(NoMemory);
+        };
+    }
+    Ok(found)
 }
