@@ -7,3 +7,4 @@ pub mod PageLaws
 pub mod PagedLaws
 pub mod PutLaws
 pub mod Reading
+pub mod WordLinks

@@ -1,5 +1,5 @@
 -- What a `PagedMem` stands for, read at each place.
-use Rattle.std.proofs.Common.{◌≡◌, ℕ, zero, suc, ◌+◌, ◌-◌, ◌*◌, ◌/◌, ◌%◌, ◌<◌, ◌≤◌, Bool, true, false, cond, ◌&&◌, nat_eq, List, length, get_or, set, replicate, refl, sym, ap, subst, ◌∙◌, inl, inr, ◌⊎◌, arith, get_or-set_same, get_or-set_other}
+use Rattle.std.proofs.Common.{◌≡◌, ℕ, zero, suc, ◌+◌, ◌-◌, ◌*◌, ◌/◌, ◌%◌, ◌<◌, ◌≤◌, Bool, true, false, cond, ◌&&◌, nat_eq, List, [], ◌++◌, length, get_or, set, replicate, refl, sym, ap, subst, ◌∙◌, inl, inr, ◌⊎◌, arith, get_or-set_same, get_or-set_other}
 use Rattle.std.proofs.lemmas.List.{get_or-replicate, length-replicate, get_or_past}
 use Rattle.std.proofs.lemmas.Bool.{cases_lt, cases_eq, eq-eqb, ne_eqb, both_ways, eqb-true, true≢false}
 use Rattle.finite.specs.Maps.{Places, contains, contains_all, zeros, nowhere, fill, mark, within}
@@ -11,11 +11,13 @@ use Rattle.guest_mem.specs.declared.words.Right.TheVariants.{Read, Write}
 use Rattle.guest_mem.specs.declared.page.Rights.{Rights}
 use Rattle.guest_mem.specs.declared.page.Page.{Page}
 use Rattle.guest_mem.specs.declared.page.Page.TheVariants as page
-use Rattle.guest_mem.specs.Memory.{Memory, blank, no_word, byte_at, word_of, with_word, with_right}
-use Rattle.guest_mem.specs.Access.{IsBelowEnd}
-use Rattle.guest_mem.specs.Pages.{page_byte, page_link, page_right, page_rights, is_full, IsPageWith, IsSamePage}
-use Rattle.guest_mem.specs.Paged.{no_page, page_of, paged_memory, paged_room}
-use Rattle.guest_mem.proofs.Reading.{same_memory}
+use Rattle.guest_mem.specs.Memory.{Memory, blank, no_word, byte_at, bytes_from, number_at, word_of, with_word, with_right}
+use Rattle.guest_mem.specs.Access.{IsBelowEnd, links_of}
+use Rattle.guest_mem.specs.Pages.{page_byte, page_link, page_right, page_rights, page_number, page_links, is_full, IsPageWith, IsSamePage}
+use Rattle.guest_mem.specs.Paged.{no_page, page_of, paged_memory, paged_room, paged_links}
+use Rattle.guest_mem.proofs.Reading.{same_memory, get_or-bytes_from}
+use Rattle.guest_mem.proofs.PageLaws.{page_number_is}
+use Rattle.guest_mem.proofs.WordLinks.{links_append, same_links, all_links, none_yet}
 use Rattle.guest_mem.proofs.FlatLaws.{is_word}
 
 past : (ps : List Page) (i : ℕ) → length ps ≤ i → page_of ps i ≡ no_page
@@ -255,3 +257,32 @@ paged_rights right ps q (suc n) h =
 -- one page made another that is read alike
 pub same_but : (ps : List Page) (i : ℕ) (p : Page) → i < length ps → IsSamePage (page_of ps i) p → paged_memory (set ps i p) ≡ paged_memory ps
 same_but ps i p h is = same_paged ps (set ps i p) (each_set (λ n q. IsSamePage (page_of ps n) q) ps i p h is (λ n _. as_it_is (page_of ps n)))
+
+-- ---- links
+paged_number : (ps : List Page) (w : ℕ) → page_number (page_of ps (w / 512)) (w % 512) ≡ number_at (paged_memory ps) (8 * w)
+paged_number ps w = page_number_is (page_of ps (w / 512)) (w % 512) (bytes_from (byte_at (paged_memory ps)) (8 * w) 8) (λ j lt. get_or-bytes_from (byte_at (paged_memory ps)) (8 * w) 8 j lt ∙ paged_byte ps w j lt)
+
+pub paged_links_are : (ps : List Page) → length ps ≡ 65536 → paged_links ps 0 0x0200_0000 ≡ links_of (paged_memory ps)
+paged_links_are ps l =
+    let m = paged_memory ps in
+    same_links (λ v. page_link (page_of ps (v / 512)) (v % 512)) (contains m.links) (λ v. page_number (page_of ps (v / 512)) (v % 512)) (λ v. number_at m (8 * v)) 0 0x0200_0000
+    (λ v a b. sym (paged_link ps v)) (λ v a b. paged_number ps v)
+    ∙ all_links m 0x0200_0000 (links_below ps l)
+
+-- the links of one more page
+pub links_more : (ps : List Page) (i : ℕ) (p : Page) (xs : List (ℕ × ℕ)) → p ≡ page_of ps i → xs ≡ paged_links ps 0 (512 * i) → xs ++ page_links p (512 * i) (512 * i) 512 ≡ paged_links ps 0 (512 * (i + 1))
+links_more ps i p xs e h =
+    let link : ℕ → Bool = λ v. page_link (page_of ps (v / 512)) (v % 512) in
+    let number : ℕ → ℕ = λ v. page_number (page_of ps (v / 512)) (v % 512) in
+    let a : 0 + 512 * i ≡ 512 * i = omega arith in
+    let b : 512 * (i + 1) ≡ 512 * i + 512 = omega arith in
+    let here : page_links p (512 * i) (512 * i) 512 ≡ paged_links ps (512 * i) 512 =
+    ap (λ (q : Page). page_links q (512 * i) (512 * i) 512) e
+    ∙ same_links (λ v. page_link (page_of ps i) (v - 512 * i)) link (λ v. page_number (page_of ps i) (v - 512 * i)) number (512 * i) 512
+    (λ v x y. (let d : i ≡ v / 512 = omega arith in let r : v - 512 * i ≡ v % 512 = omega arith in λ k. page_link (page_of ps (d k)) (r k)))
+    (λ v x y. (let d : i ≡ v / 512 = omega arith in let r : v - 512 * i ≡ v % 512 = omega arith in λ k. page_number (page_of ps (d k)) (r k))) in
+    (λ k. h k ++ here k)
+    ∙ sym (ap (paged_links ps 0) b ∙ links_append link number 0 (512 * i) 512 ∙ ap (λ (w : ℕ). paged_links ps 0 (512 * i) ++ paged_links ps w 512) a)
+
+pub links_none : (ps : List Page) (xs : List (ℕ × ℕ)) → xs ≡ [] → xs ≡ paged_links ps 0 0
+links_none ps xs e = e ∙ sym (none_yet (λ v. page_link (page_of ps (v / 512)) (v % 512)) (λ v. page_number (page_of ps (v / 512)) (v % 512)) 0)

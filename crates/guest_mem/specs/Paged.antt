@@ -1,5 +1,5 @@
 -- What a `PagedMem` stands for: the page i has the bytes from 4096 * i and the words from 512 * i.
-use Rattle.std.specs.Prelude.{◌≡◌, ℕ, ◌+◌, ◌*◌, ◌/◌, ◌%◌, ◌-◌, ◌<◌, ◌≤◌, min, Bool, true, false, List, [], ◌++◌, zero, suc, get_or, length}
+use Rattle.std.specs.Prelude.{◌≡◌, ℕ, ◌+◌, ◌*◌, ◌/◌, ◌%◌, ◌-◌, ◌<◌, ◌≤◌, min, Bool, true, false, List, get_or, length}
 use Rattle.finite.specs.Maps.{Places, zeros, nowhere, fill, mark}
 use Rattle.guest_mem.specs.declared.words.Right.TheVariants.{Read, Write}
 use Rattle.guest_mem.specs.declared.page.Rights.{Rights}
@@ -9,7 +9,7 @@ use Rattle.guest_mem.specs.declared.paged.PagedMem.TheInside.{Inside}
 use Rattle.guest_mem.specs.Memory.{Memory}
 use Rattle.guest_mem.specs.Store.{Store}
 use Rattle.guest_mem.specs.Access.{mapped, with_rights}
-use Rattle.guest_mem.specs.Pages.{page_byte, page_link, page_right, is_full, page_links, IsReady}
+use Rattle.guest_mem.specs.Pages.{page_byte, page_link, page_right, page_number, is_full, word_links, IsReady}
 
 -- a page of which nothing is known: zero and Plain, without rights
 abbrev pub no_page : Page
@@ -57,6 +57,5 @@ changed true m a n given = mapped m a n given.read given.write
 changed false m a n given = with_rights m a n given.read given.write
 
 -- the links of the n words from w, with their addresses and numbers
-unfoldable pub links_from : List Page → ℕ → ℕ → List (ℕ × ℕ)
-links_from ps w zero = []
-links_from ps w (suc n) = page_links (page_of ps (w / 512)) (512 * (w / 512)) (w % 512) 1 ++ links_from ps (w + 1) n
+abbrev pub paged_links : List Page → ℕ → ℕ → List (ℕ × ℕ)
+paged_links ps w n = word_links (λ v. page_link (page_of ps (v / 512)) (v % 512)) (λ v. page_number (page_of ps (v / 512)) (v % 512)) w n

@@ -1,5 +1,5 @@
 -- What the entry of a page stands for. Each page has the words 0 to 511 and the bytes 0 to 4095.
-use Rattle.std.specs.Prelude.{◌≡◌, ℕ, zero, suc, ◌+◌, ◌*◌, ◌/◌, ◌<◌, Bool, true, false, ◌&&◌, cond, nat_eq, if◌then◌else◌, List, [], ◌∷◌, get_or, ◌⊎◌}
+use Rattle.std.specs.Prelude.{◌≡◌, ℕ, zero, suc, ◌+◌, ◌-◌, ◌*◌, ◌/◌, ◌<◌, Bool, true, false, ◌&&◌, cond, nat_eq, if◌then◌else◌, List, [], ◌∷◌, get_or, ◌⊎◌}
 use Rattle.finite.specs.Maps.{within}
 use Rattle.link_tags.specs.Values.{is_link}
 use Rattle.guest_mem.specs.declared.words.Word.{Word}
@@ -10,7 +10,7 @@ use Rattle.guest_mem.specs.declared.page.Full.{Full}
 use Rattle.guest_mem.specs.declared.page.Page.{Page}
 use Rattle.guest_mem.specs.declared.page.Page.TheVariants as page
 use Rattle.guest_mem.specs.Bits.{bit_in}
-use Rattle.guest_mem.specs.Memory.{bytes_of}
+use Rattle.guest_mem.specs.Memory.{number_of, bytes_of}
 use Rattle.guest_mem.specs.Access.{touched}
 
 abbrev pub right_of : Right → Rights → Bool
@@ -76,11 +76,19 @@ abbrev pub IsReady : Page → ℕ → ℕ → Rights → Type 0
 IsReady (page.Zero old) lo n rights = ((lo ≡ 0) × (n ≡ 4096)) ⊎ (old ≡ rights)
 IsReady (page.Full f) lo n rights = Unit {0}
 
--- the links among the n words from k of a page whose first word is the word first, with their addresses and numbers
-unfoldable pub full_links : Full → ℕ → ℕ → ℕ → List (ℕ × ℕ)
-full_links f first k zero = []
-full_links f first k (suc n) = if bit_in f.links k then (8 * (first + k), get_or f.words k 0) ∷ full_links f first (k + 1) n else full_links f first (k + 1) n
+-- the number of the word k
+abbrev pub page_number : Page → ℕ → ℕ
+page_number (page.Zero r) k = number_of (bytes_of 0)
+page_number (page.Full f) k = number_of (bytes_of (get_or f.value.words k 0))
+
+-- of the n words from w those that p has, with their addresses and the numbers that f has
+unfoldable pub word_links : (ℕ → Bool) → (ℕ → ℕ) → ℕ → ℕ → List (ℕ × ℕ)
+word_links p f w zero = []
+word_links p f w (suc n) = if p w then (8 * w, f w) ∷ word_links p f (w + 1) n else word_links p f (w + 1) n
+
+-- the links among the n words from w of a page whose first word is the word first
+abbrev pub full_links : Full → ℕ → ℕ → ℕ → List (ℕ × ℕ)
+full_links f first w n = word_links (λ v. bit_in f.links (v - first)) (λ v. number_of (bytes_of (get_or f.words (v - first) 0))) w n
 
 abbrev pub page_links : Page → ℕ → ℕ → ℕ → List (ℕ × ℕ)
-page_links (page.Zero r) first k n = []
-page_links (page.Full f) first k n = full_links f.value first k n
+page_links p first w n = word_links (λ v. page_link p (v - first)) (λ v. page_number p (v - first)) w n

@@ -170,7 +170,7 @@ impl Full {
 impl Full {
     fn add_links(&self, found: &mut Vec<(u64, u64)>, first: u64) -> Result<(), NoMemory>
         requires { first + 512 ≤ 0x0200_0000 }
-        ensures { OnOk result (found.new.items ≡ found.old.items ++ full_links self.now first 0 512) }
+        ensures { OnOk result (found.new.items ≡ found.old.items ++ full_links self.now first first 512) }
     {
         for row in 0..8 {
             if self.links[row] != 0 {
@@ -191,11 +191,12 @@ impl Full {
     ) -> Result<(), NoMemory>
         requires first { first + 512 ≤ 0x0200_0000 }
         requires row { row < 8 }
-        ensures { OnOk result (found.new.items ≡ found.old.items ++ full_links self.now first (64 * row) 64) }
+        ensures { OnOk result (found.new.items ≡ found.old.items ++ full_links self.now first (first + 64 * row) 64) }
     {
         for k in 64 * row..64 * row + 64 {
             if bit(&self.links, k) {
-                let Ok(()) = found.push((8 * (first + k as u64), self.words[k])) else {
+                let number = number(self.word(k).bytes);
+                let Ok(()) = found.push((8 * (first + k as u64), number)) else {
                     return Err(NoMemory);
                 };
             }
@@ -312,7 +313,7 @@ impl Page {
     /// Adds the links of the page, whose first word is the word `first`, with their addresses and numbers.
     pub fn add_links(&self, found: &mut Vec<(u64, u64)>, first: u64) -> Result<(), NoMemory>
         requires { first + 512 ≤ 0x0200_0000 }
-        ensures { OnOk result (found.new.items ≡ found.old.items ++ page_links self.now first 0 512) }
+        ensures { OnOk result (found.new.items ≡ found.old.items ++ page_links self.now first first 512) }
     {
         match self {
             Page::Zero(_) => Ok(()),

@@ -1,9 +1,9 @@
 //! Memory in a table of pages.
 ghost use Rattle.std.specs.Prelude.{◌≡◌, ℕ, ◌+◌, ◌-◌, ◌*◌, ◌/◌, ◌<◌, ◌≤◌, true, length, IfOk, OnOk, OnErr};
-ghost use Rattle.finite.specs.Maps.{nowhere};
+ghost use Rattle.finite.specs.Maps.{contains, nowhere};
 ghost use Rattle.guest_mem.specs.Memory.{blank};
-ghost use Rattle.guest_mem.specs.Pages.{is_full};
-ghost use Rattle.guest_mem.specs.Paged.{page_of, paged_memory, part_from, part_to, AreReady, changed, links_from};
+ghost use Rattle.guest_mem.specs.Access.{KeepsRoom};
+ghost use Rattle.guest_mem.specs.Paged.{paged_memory, part_from, part_to, AreReady, changed, paged_links, paged_room};
 
 use crate::fault::{Access, StoreFault};
 use crate::page::{Page, Rights};
@@ -143,8 +143,8 @@ fn make_full(
 ) -> Result<(), NoMemory>
     requires { end ≤ length pages.old }
     ensures same { paged_memory pages.new ≡ paged_memory pages.old }
-    ensures made { OnOk result ((i : ℕ) → first ≤ i → i < end → is_full (page_of pages.new i) ≡ true) }
-    ensures kept { (i : ℕ) → is_full (page_of pages.old i) ≡ true → is_full (page_of pages.new i) ≡ true }
+    ensures made { OnOk result ((w : ℕ) → 512 * first ≤ w → w < 512 * end → contains (paged_room pages.new) w ≡ true) }
+    ensures room { KeepsRoom (paged_room pages.old) (paged_room pages.new) }
     ensures table { length pages.new ≡ length pages.old }
 {
     for i in first..end {
@@ -303,7 +303,7 @@ impl GuestStore for PagedMem {
 /// The links in pages, with their addresses and numbers.
 fn links_in(alloc: Global, pages: &[Page]) -> Result<Vec<(u64, u64)>, NoMemory>
     requires { length pages.now ≡ 65536 }
-    ensures { IfOk result (λ v. v.items ≡ links_from pages.now 0 33554432) }
+    ensures { IfOk result (λ v. v.items ≡ paged_links pages.now 0 0x0200_0000) }
 {
     let mut found = Vec::new(alloc);
     for i in 0..PAGES {
