@@ -1,6 +1,6 @@
 -- What the parts of a load or store of one word make together.
-use Rattle.std.proofs.Common.{◌≡◌, ℕ, zero, suc, ◌+◌, ◌-◌, ◌*◌, ◌/◌, ◌%◌, ◌^◌, ◌<◌, ◌≤◌, Bool, true, false, cond, nat_eq, nat_lt, None, Result, Ok, Err, OnOk, OnErr, List, take, drop, length, get_or, refl, sym, ap, subst, ◌∙◌, inl, inr, arith}
-use Rattle.std.proofs.lemmas.Bool.{both_ways, ne_eqb, eq-eqb, eqb-true, lt-ltb, le-ltb, cases_eq, cases_lt}
+use Rattle.std.proofs.Common.{◌≡◌, ℕ, zero, suc, ◌+◌, ◌-◌, ◌*◌, ◌/◌, ◌%◌, ◌^◌, ◌<◌, ◌≤◌, Bool, true, false, cond, nat_eq, nat_lt, None, Result, Ok, Err, OnOk, OnErr, List, min, max, take, drop, length, get_or, refl, sym, ap, subst, ◌∙◌, inl, inr, arith}
+use Rattle.std.proofs.lemmas.Bool.{and_parts, both_ways, ne_eqb, eq-eqb, eqb-true, lt-ltb, le-ltb, cases_eq, cases_lt}
 use Rattle.std.proofs.lemmas.Bool.Decides.{nat_tests}
 use Rattle.std.proofs.lemmas.List.{get_or_past, get_or-take, get_or-drop, length-take}
 use Rattle.finite.specs.Maps.{contains}
@@ -10,7 +10,7 @@ use Rattle.link_tags.specs.declared.value.Value.{Value}
 use Rattle.rv_isa.specs.declared.instr.Width.{Width}
 use Rattle.rv_isa.specs.declared.instr.Width.TheVariants.{B, H, W, D, Bu, Hu, Wu}
 use Rattle.finite.specs.Maps.{Places, fill, mark, within}
-use Rattle.finite.proofs.MapLaws.{all-last, same_places, at-fill, in_range, out_of_range, fill_word, mark_at, same_by_words}
+use Rattle.finite.proofs.MapLaws.{all-none, all-more, all-last, same_places, at-fill, in_range, out_of_range, fill_word, mark_at, same_by_words}
 use Rattle.guest_mem.specs.Memory.{Memory, byte_at, number_of, bytes_of, bytes_from, tag_of, word_of, with_word}
 use Rattle.guest_mem.proofs.Reading.{same_memory}
 use Rattle.link_tags.specs.Values.{is_link}
@@ -240,3 +240,42 @@ seen_at origin m q =
 pub settled : {T E : Type 0} (r : Result T E) (n k : Memory) (room : Bool) → OnOk r (n ≡ k) → OnErr r (room ≡ false) → room ≡ true → n ≡ k
 settled (Ok x) n k room made full has = made
 settled (Err x) n k room made full has = absurd (both_ways room full has)
+
+-- an aligned access lies in one word
+pub in_one_word : (w : Width) (a : ℕ) → a % size_of w ≡ 0 → a % 8 + size_of w ≤ 8
+in_one_word B a h = omega arith
+in_one_word H a h = omega arith
+in_one_word W a h = omega arith
+in_one_word D a h = omega arith
+in_one_word Bu a h = omega arith
+in_one_word Hu a h = omega arith
+in_one_word Wu a h = omega arith
+
+-- ---- all of some places
+all-init : (s : Places) (lo n : ℕ) → contains_all s lo (suc n) ≡ true → contains_all s lo n ≡ true
+unfolding contains_all
+all-init s lo n h = (and_parts (contains_all s lo n) (contains s (lo + n)) h).0
+
+pub all_at : (s : Places) (lo n k : ℕ) → contains_all s lo n ≡ true → k < n → contains s (lo + k) ≡ true
+all_at s lo zero k h lt = absurd (omega arith)
+all_at s lo (suc n) k h lt = elim (cases_eq k n) [
+  | inl same ↦ ap (λ (j : ℕ). contains s (lo + j)) same ∙ all-last s lo n h
+  | inr other ↦ all_at s lo n k (all-init s lo n h) (omega arith)
+]
+
+pub all_from : (s : Places) (lo n : ℕ) → ((k : ℕ) → k < n → contains s (lo + k) ≡ true) → contains_all s lo n ≡ true
+all_from s lo zero h = all-none s lo
+all_from s lo (suc n) h = ap (contains_all s lo) (omega arith) ∙ all-more s lo n (all_from s lo n (λ k lt. h k (omega arith))) (h n (omega arith))
+
+-- the words up to w have been looked at, and the next has the right too
+pub all_word : (s : Places) (a n w from : ℕ) → from ≡ max a (8 * w) → contains_all s a (min (8 * w) (a + n) - a) ≡ true → contains_all s from (min (a + n) (8 * w + 8) - from) ≡ true
+    → contains_all s a (min (8 * (w + 1)) (a + n) - a) ≡ true
+all_word s a n w from e before here = all_from s a (min (8 * (w + 1)) (a + n) - a) (λ k lt. elim (cases_lt k (min (8 * w) (a + n) - a)) [
+  | inl below ↦ all_at s a (min (8 * w) (a + n) - a) k before below
+  | inr above ↦ ap (contains s) (omega arith) ∙ all_at s from (min (a + n) (8 * w + 8) - from) (a + k - from) here (omega arith)
+])
+
+-- a part that isn't all in the set
+pub all_lacks : (s : Places) (a n from to : ℕ) → a ≤ from → to ≤ a + n → contains_all s from (to - from) ≡ false → contains_all s a n ≡ false
+all_lacks s a n from to lo hi h = not_true (contains_all s a n) (λ e.
+    both_ways (contains_all s from (to - from)) h (all_from s from (to - from) (λ k lt. ap (contains s) (omega arith) ∙ all_at s a n (from + k - a) e (omega arith))))

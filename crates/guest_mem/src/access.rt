@@ -13,17 +13,25 @@ use link_tags::origins::{Origins, original};
 use link_tags::value::{Tag, Value};
 use rv_isa::instr::Width;
 
+/// The end of guest addresses.
+const END: u64 = 0x1000_0000;
+
 /// Whether each of the `n` bytes at `at` has a right.
 pub fn all_have_right<S: WordStore>(store: &S, right: Right, at: u64, n: u64) -> bool
     ensures value { result ≡ contains_all (with_right (S.contents store.now) right) at n }
     ensures end { result ≡ true → 0 < n → at + n ≤ 0x1000_0000 }
 {
     store.bounded();
-    for k in 0..n {
-        let Some(q) = at.checked_add(k) else {
-            return false;
-        };
-        if !store.has_right(right, q) {
+    if n == 0 {
+        return true;
+    }
+    if at.saturating_add(n) > END {
+        return false;
+    }
+    for w in at / 8..(at + n + 7) / 8 {
+        let from = at.max(8 * w);
+        let to = (at + n).min(8 * w + 8);
+        if !store.have_rights(right, from, to - from) {
             return false;
         }
     }
@@ -31,6 +39,7 @@ pub fn all_have_right<S: WordStore>(store: &S, right: Right, at: u64, n: u64) ->
 }
 
 /// The value of a width at `at`.
+#[inline]
 pub fn load<S: WordStore, O: Origins>(
     store: &S,
     at: u64,
@@ -43,7 +52,7 @@ pub fn load<S: WordStore, O: Origins>(
     if at % size != 0 {
         return Err(Access::Misaligned);
     }
-    if !all_have_right(store, Right::Read, at, size) {
+    if !store.have_rights(Right::Read, at, size) {
         return Err(Access::NoAccess);
     }
     let word = store.word(at / 8);
@@ -59,6 +68,7 @@ pub fn load<S: WordStore, O: Origins>(
 }
 
 /// The word that a store at `at` leaves where `old` stood.
+#[inline]
 fn new_word<O: Origins>(old: Word, at: u64, width: Width, v: Value, origins: &O) -> Word
     requires width { IsStoreWidth width }
     requires aligned { at % size_of width ≡ 0 }
@@ -80,6 +90,7 @@ fn new_word<O: Origins>(old: Word, at: u64, width: Width, v: Value, origins: &O)
 }
 
 /// Stores a value of a width at `at`.
+#[inline]
 pub fn store<S: WordStore, O: Origins>(
     store: &mut S,
     at: u64,
@@ -99,7 +110,7 @@ pub fn store<S: WordStore, O: Origins>(
     if at % size != 0 {
         return Err(StoreFault::Misaligned);
     }
-    if !all_have_right(store, Right::Write, at, size) {
+    if !store.have_rights(Right::Write, at, size) {
         return Err(StoreFault::NoAccess);
     }
     let new = new_word(store.word(at / 8), at, width, v, origins);

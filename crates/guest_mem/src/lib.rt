@@ -10,6 +10,7 @@ mod bytes;
 mod clearing;
 pub mod fault;
 pub mod flat;
+pub mod memory;
 pub mod page;
 pub mod paged;
 pub mod store;

@@ -14,6 +14,7 @@ use rv_isa::instr::Width;
 use std::alloc::Global;
 
 /// How many bytes a load or store moves.
+#[inline]
 pub fn size(width: Width) -> u64
     ensures { result ≡ size_of width }
 {

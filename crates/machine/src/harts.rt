@@ -8,7 +8,7 @@ ghost use Rattle.machine.specs.Harts.{is_live, has_ended, hart_in, lost, unreser
 ghost use Rattle.machine.specs.Steps.{arguments_of};
 ghost use Rattle.machine.specs.Sharing.{ActsIn, HasRoom, HoldsNone};
 
-use guest_mem::flat::FlatMem;
+use guest_mem::memory::GuestMem;
 use guest_sys::HART_LIMIT;
 use guest_sys::effect::Reply;
 use hart::act::{Acted, act, next};
@@ -103,7 +103,7 @@ impl Harts {
 
     /// Does an instruction of hart `h`, but for what only the machine can.
     #[inline(always)]
-    pub fn act<O: Origins>(&mut self, h: u32, memory: &mut FlatMem, origins: &O, i: &Instr) -> Acted
+    pub fn act<O: Origins>(&mut self, h: u32, memory: &mut GuestMem, origins: &O, i: &Instr) -> Acted
         requires made { h < length self.old }
         requires word { HasWord i.now }
         ensures { ActsIn (O.origin origins.now) (effect_of (O.origin origins.now) memory.old.contents (hart_in self.old h) i.now) h self.old self.new memory.old.contents memory.new.contents result }

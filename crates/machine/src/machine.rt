@@ -15,7 +15,7 @@ ghost use Rattle.machine.specs.Steps.{with_hart, is_indirect, fault_of_jump, cal
 use crate::harts::{Harts, arguments_of};
 use crate::outcome::Outcome;
 use crate::start::{break_of, start_hart, start_memory};
-use guest_mem::flat::FlatMem;
+use guest_mem::memory::GuestMem;
 use guest_mem::store::GuestStore;
 use guest_sys::call::syscall;
 use guest_sys::effect::{Effect, Reply};
@@ -37,7 +37,7 @@ use std::marker::Model;
 pub struct Machine {
     alloc: Global,
     harts: Harts,
-    memory: FlatMem,
+    memory: GuestMem,
     system: Sys,
     outcome: Option<Outcome>,
 }

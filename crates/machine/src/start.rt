@@ -10,7 +10,7 @@ ghost use Rattle.machine.specs.Start.{highest, end_of, break_of, with_bytes, wit
 
 use crate::{NAME_AT, STACK_END, STACK_POINTER, STACK_START};
 use finite::search::Spanned;
-use guest_mem::flat::FlatMem;
+use guest_mem::memory::GuestMem;
 use guest_mem::store::GuestStore;
 use guest_mem::words::{Word, WordStore};
 use hart::hart::{Hart, Status};
@@ -70,7 +70,7 @@ fn highest_end<T: Spanned>(pieces: &[T]) -> u64
 }
 
 /// The memory before the first step.
-pub fn start_memory(alloc: Global, image: &Image) -> Result<FlatMem, NoMemory>
+pub fn start_memory(alloc: Global, image: &Image) -> Result<GuestMem, NoMemory>
     ensures is { IfOk result (λ m. m.contents ≡ start_memory image.now) }
     ensures loaded { IfOk result (λ m. IsLoaded image.now m.contents) }
 {
@@ -79,11 +79,11 @@ pub fn start_memory(alloc: Global, image: &Image) -> Result<FlatMem, NoMemory>
 }
 
 #[tactic(auto, unfolding(crate::specs::Start::start_memory))]
-fn memory_of(alloc: Global, image: &Image) -> Result<FlatMem, NoMemory>
+fn memory_of(alloc: Global, image: &Image) -> Result<GuestMem, NoMemory>
     ensures { IfOk result (λ m. m.contents ≡ start_memory image.now) }
 {
     image.kept();
-    let mut memory = FlatMem::new(alloc);
+    let mut memory = GuestMem::new(alloc)?;
     add_parts(&mut memory, image.parts())?;
     add_stack(&mut memory, image)?;
     link_slots(&mut memory, image)?;
@@ -91,7 +91,7 @@ fn memory_of(alloc: Global, image: &Image) -> Result<FlatMem, NoMemory>
 }
 
 /// Writes bytes where all of them may be written, so that only want of memory can be in the way.
-fn write_bytes(memory: &mut FlatMem, at: u64, bytes: &[u8]) -> Result<(), NoMemory>
+fn write_bytes(memory: &mut GuestMem, at: u64, bytes: &[u8]) -> Result<(), NoMemory>
     requires { contains_all memory.old.contents.writable at (length bytes.now) ≡ true }
     ensures { OnOk result (memory.new.contents ≡ with_bytes memory.old.contents at bytes.now) }
 {
@@ -103,7 +103,7 @@ fn write_bytes(memory: &mut FlatMem, at: u64, bytes: &[u8]) -> Result<(), NoMemo
 
 /// Adds a data part. While its bytes are written it may be written whatever its rights.
 #[tactic(auto, using(crate::proofs::Loading::holds_none))]
-fn add_part(memory: &mut FlatMem, part: &Part) -> Result<(), NoMemory>
+fn add_part(memory: &mut GuestMem, part: &Part) -> Result<(), NoMemory>
     requires fit { IsPart part.now }
     requires plain { (w : ℕ) → contains memory.old.contents.links w ≡ false }
     ensures is { OnOk result (memory.new.contents ≡ with_part part.now memory.old.contents) }
@@ -115,7 +115,7 @@ fn add_part(memory: &mut FlatMem, part: &Part) -> Result<(), NoMemory>
     Ok(())
 }
 
-fn add_parts(memory: &mut FlatMem, parts: &[Part]) -> Result<(), NoMemory>
+fn add_parts(memory: &mut GuestMem, parts: &[Part]) -> Result<(), NoMemory>
     requires fit { All IsPart parts.now }
     requires plain { (w : ℕ) → contains memory.old.contents.links w ≡ false }
     ensures is { OnOk result (memory.new.contents ≡ with_parts parts.now memory.old.contents) }
@@ -128,7 +128,7 @@ fn add_parts(memory: &mut FlatMem, parts: &[Part]) -> Result<(), NoMemory>
 }
 
 /// Writes words of 8 bytes.
-fn write_words(memory: &mut FlatMem, from: u64, words: &[u64]) -> Result<(), NoMemory>
+fn write_words(memory: &mut GuestMem, from: u64, words: &[u64]) -> Result<(), NoMemory>
     requires { from + 8 * length words.now ≤ 0x1000_0000 }
     ensures { OnOk result (memory.new.contents ≡ with_words from words.now memory.old.contents) }
 {
@@ -141,7 +141,7 @@ fn write_words(memory: &mut FlatMem, from: u64, words: &[u64]) -> Result<(), NoM
 }
 
 #[tactic(auto, unfolding(guest_mem::specs::Memory::bytes_of))]
-fn write_word(memory: &mut FlatMem, at: u64, number: u64) -> Result<(), NoMemory>
+fn write_word(memory: &mut GuestMem, at: u64, number: u64) -> Result<(), NoMemory>
     requires { at < 0x1000_0000 }
     ensures { OnOk result (memory.new.contents ≡ with_word memory.old.contents (at / 8) (record { bytes = bytes_of number; tag = Tag.Plain })) }
 {
@@ -154,7 +154,7 @@ fn write_word(memory: &mut FlatMem, at: u64, number: u64) -> Result<(), NoMemory
 
 /// Adds the stack.
 #[tactic(auto, using(crate::proofs::Loading::all_marked, crate::proofs::Loading::holds_none))]
-fn add_stack(memory: &mut FlatMem, image: &Image) -> Result<(), NoMemory>
+fn add_stack(memory: &mut GuestMem, image: &Image) -> Result<(), NoMemory>
     requires { (w : ℕ) → contains memory.old.contents.links w ≡ false }
     ensures { OnOk result (memory.new.contents ≡ with_stack image.now memory.old.contents) }
 {
@@ -188,7 +188,7 @@ fn add_stack(memory: &mut FlatMem, image: &Image) -> Result<(), NoMemory>
 
 /// Makes the word of a slot a link, with the number that stands there.
 #[tactic(auto, using(crate::proofs::Loading::slot_linked))]
-fn link_slot(memory: &mut FlatMem, slot: Aim) -> Result<(), NoMemory>
+fn link_slot(memory: &mut GuestMem, slot: Aim) -> Result<(), NoMemory>
     requires { slot.at < 0x1000_0000 }
     ensures { OnOk result (memory.new.contents ≡ with_slot slot memory.old.contents) }
 {
@@ -201,14 +201,14 @@ fn link_slot(memory: &mut FlatMem, slot: Aim) -> Result<(), NoMemory>
 }
 
 #[tactic(auto, using(crate::proofs::Slots::slots_low))]
-fn link_slots(memory: &mut FlatMem, image: &Image) -> Result<(), NoMemory>
+fn link_slots(memory: &mut GuestMem, image: &Image) -> Result<(), NoMemory>
     ensures { OnOk result (memory.new.contents ≡ with_slots image.now.slots memory.old.contents) }
 {
     image.kept();
     link_all(memory, image.slots())
 }
 
-fn link_all(memory: &mut FlatMem, slots: &[Aim]) -> Result<(), NoMemory>
+fn link_all(memory: &mut GuestMem, slots: &[Aim]) -> Result<(), NoMemory>
     requires { All (λ s. s.at < 0x1000_0000) slots.now }
     ensures { OnOk result (memory.new.contents ≡ with_slots slots.now memory.old.contents) }
 {
