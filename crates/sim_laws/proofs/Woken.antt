@@ -1,7 +1,7 @@
 -- Harts that are woken, and those that wait on, after a call.
 use Rattle.std.proofs.Common.{◌≡◌, ◌≢◌, ℕ, zero, suc, true, List, [], ◌∷◌, ◌++◌, get_or, refl, sym, ap, ◌∙◌, subst}
-use Rattle.std.specs.Prelude.{All, AllPairs, slice_get, slice_set}
-use Rattle.std.proofs.lemmas.List.Elements.{All-nil, All-head, All-tail, All-map, All-push}
+use Rattle.std.specs.Prelude.{Some, All, AllPairs, slice_get, slice_set}
+use Rattle.std.proofs.lemmas.List.Elements.{All-nil, All-cons, All-head, All-tail, All-map, All-push}
 use Rattle.oc_base.specs.declared.range.Range.{Range}
 use Rattle.hart.specs.declared.hart.Hart.{Hart}
 use Rattle.hart.specs.declared.hart.Status.{Status}
@@ -11,14 +11,14 @@ use Rattle.guest_sys.specs.declared.effect.Reply.{Reply}
 use Rattle.guest_sys.specs.declared.effect.Reply.TheVariants as reply
 use Rattle.guest_sys.specs.Waiting.{first_at, others, harts, requeued}
 use Rattle.guest_sys.specs.Calls.{Done, ranges}
-use Rattle.machine.specs.Harts.{is_live, hart_in, is_in, written_in, awake, woken, stopped, replied}
+use Rattle.machine.specs.Harts.{is_live, hart_in, is_in, written_in, awake, woken, waiting_at, waiting_as, answered, stopped, child_of, replied}
 use Rattle.machine.specs.Steps.{harts_after}
-use Rattle.sim_laws.specs.Related.{is_waiting, AreWaiting}
+use Rattle.sim_laws.specs.Related.{AreWaiting}
 use Rattle.sim_laws.proofs.HartLists.{live_at, get_set, get_other, hart_at}
-use Rattle.sim_laws.proofs.Settled.{StillWait, waits_set, waits_map}
+use Rattle.sim_laws.proofs.Settled.{is_waiting, StillWait, waits_set, waits_map}
 use Rattle.sim_laws.proofs.Written.{hart_map}
 use Rattle.sim_laws.proofs.Fair.{Queued, stays, joins, wakes, moves}
-use Rattle.sim_laws.proofs.Queue.{Other, pairs_nil, pairs_map, after_wake, wake_all, requeue_all, after_requeue, after_join}
+use Rattle.sim_laws.proofs.Queue.{Other, pairs_head, pairs_tail, pairs_nil, pairs_map, after_wake, wake_all, requeue_all, after_requeue, after_join}
 
 abbrev IsLiveIn : List Hart → ℕ → Type 0
 IsLiveIn hs h = is_live (hart_in hs h).status ≡ true
@@ -74,7 +74,7 @@ waits_written_in rs hs = waits_map (is_in rs) hs
 
 waits_push : (hs : List Hart) (x : Hart) → StillWait hs (hs ++ x ∷ [])
 waits_push [] x k e = absurd (cc)
-waits_push (y ∷ ys) x zero e = e
+waits_push (y ∷ ys) x zero e = refl
 waits_push (y ∷ ys) x (suc k) e = waits_push ys x k e
 
 waits_at_live : (hs : List Hart) (h : ℕ) (x : Hart) → IsLiveIn hs h → StillWait hs (slice_set hs h x)
@@ -85,9 +85,11 @@ unfolding replied
 waits_replied h (reply.Answer value) hs live = waits_at_live hs h _ live
 waits_replied h (reply.Wait at) hs live = waits_at_live hs h _ live
 waits_replied h reply.EndHart hs live = waits_at_live hs h _ live
-waits_replied h (reply.Clone stack thread clear tid) hs live = λ k e. waits_push _ _ k (waits_at_live hs h _ live k e)
+waits_replied h (reply.Clone stack thread clear tid) hs live = λ k e.
+    let same = waits_at_live hs h (answered tid (hart_in hs h)) live k e in
+    waits_push (slice_set hs h (answered tid (hart_in hs h))) (child_of (hart_in hs h) stack thread clear) k (ap is_waiting same ∙ e) ∙ same
 waits_replied h (reply.SetClear clear) hs live = waits_at_live hs h _ live
-waits_replied h r hs live = λ k e. e
+waits_replied h r hs live = λ k e. refl
 
 joins_waiting : (h at : ℕ) (hs : List Hart) → IsLiveIn hs h → WaitsIn (replied h (reply.Wait at) hs) h
 unfolding replied
@@ -99,12 +101,54 @@ pub record AreWoken (h : ℕ) (ks : List ℕ) (hs : List Hart) : Type 0 where
   pub once : AllPairs (λ j k. j ≢ k) ks
   pub elsewhere : All (λ j. h ≢ j) ks
 
+-- each on the list waits, at whatever address, and is there once
+pub record AreListed (waiting : List Waiter) (harts : List Hart) : Type 0 where
+  pub wait : All (λ w. WaitsIn harts w.hart) waiting
+  pub once : AllPairs Other waiting
+
+-- ---- each on the list waits where the list has it
+waits_otherwise : (ws : List Waiter) (hs : List Hart) (h : ℕ) → All (λ w. h ≢ w.hart) ws → hart_in (waiting_as ws hs) h ≡ hart_in hs h
+waits_otherwise [] hs h n = refl
+waits_otherwise (w ∷ ws) hs h n =
+    let x = waiting_at w.at (hart_in hs w.hart) in
+    waits_otherwise ws (slice_set hs w.hart x) h (All-tail (λ (v : Waiter). h ≢ v.hart) w ws n) ∙ hart_other hs w.hart h x (All-head (λ (v : Waiter). h ≢ v.hart) w ws n)
+
+pub listed_tail : (w : Waiter) (ws : List Waiter) (hs : List Hart) (x : Hart) → AreListed (w ∷ ws) hs → AreListed ws (slice_set hs w.hart x)
+listed_tail w ws hs x a =
+    let far = pairs_head Other w ws a.once in
+    record {
+      wait = λ i d l. ap (λ (z : Hart). is_waiting z.status) (hart_other hs w.hart (get_or ws i d).hart x (λ e. far i d l (sym e)))
+          ∙ All-tail (λ (v : Waiter). WaitsIn hs v.hart) w ws a.wait i d l;
+      once = pairs_tail Other w ws a.once;
+    }
+
+pub found_waiting : (hs : List Hart) (k : ℕ) → WaitsIn hs k → slice_get hs k ≡ Some (hart_in hs k)
+found_waiting [] k e = absurd (cc)
+found_waiting (y ∷ ys) zero e = refl
+found_waiting (y ∷ ys) (suc k) e = found_waiting ys k e
+
+listed_at : (ws : List Waiter) (hs : List Hart) → AreListed ws hs → All (λ w. (hart_in (waiting_as ws hs) w.hart).status ≡ Waiting w.at) ws
+listed_at [] hs a = All-nil (λ w. (hart_in hs w.hart).status ≡ Waiting w.at)
+listed_at (w ∷ ws) hs a =
+    let x = waiting_at w.at (hart_in hs w.hart) in
+    let next = slice_set hs w.hart x in
+    let here : hart_in next w.hart ≡ x = hart_at next w.hart x (get_set hs w.hart (hart_in hs w.hart) x (found_waiting hs w.hart (All-head (λ (v : Waiter). WaitsIn hs v.hart) w ws a.wait))) in
+    All-cons (λ v. (hart_in (waiting_as ws next) v.hart).status ≡ Waiting v.at) w ws
+    (ap (λ (z : Hart). z.status) (waits_otherwise ws next w.hart (pairs_head Other w ws a.once) ∙ here))
+    (listed_at ws next (listed_tail w ws hs x a))
+
+pub now_waiting : (ws : List Waiter) (hs : List Hart) → AreListed ws hs → AreWaiting ws (waiting_as ws hs)
+now_waiting ws hs a = record { wait = listed_at ws hs a; once = a.once }
+
 module _ (h : ℕ) (d : Done) (hs : List Hart) (ws : List Waiter) (live : IsLiveIn hs h) (a : AreWaiting ws hs) where
+  waits : All (λ w. WaitsIn hs w.hart) ws
+  waits k x l = ap is_waiting (a.wait k x l)
+
   still : (k : ℕ) → All (λ j. k ≢ j) d.woken → WaitsIn hs k → WaitsIn (harts_after h d hs) k
   still k far e =
       let rs = ranges d.changes in
-      waits_replied h d.reply (woken d.woken (written_in rs hs)) (lives_woken d.woken (written_in rs hs) h (lives_written rs hs h live)) k
-      (waits_woken d.woken (written_in rs hs) k far (waits_written_in rs hs k e))
+      let w = waits_woken d.woken (written_in rs hs) k far (ap is_waiting (waits_written_in rs hs k e) ∙ e) in
+      ap is_waiting (waits_replied h d.reply (woken d.woken (written_in rs hs)) (lives_woken d.woken (written_in rs hs) h (lives_written rs hs h live)) k w) ∙ w
 
   -- those that aren't woken
   left : (fs vs : List Waiter) → d.woken ≡ harts fs → All (λ v. WaitsIn hs v.hart) vs → All (λ v. All (Other v) fs) vs → All (λ v. WaitsIn (harts_after h d hs) v.hart) vs
@@ -114,8 +158,8 @@ module _ (h : ℕ) (d : Done) (hs : List Hart) (ws : List Waiter) (live : IsLive
   none_woken : (vs : List Waiter) → All (λ v. All (Other v) []) vs
   none_woken vs k x l = All-nil (Other (get_or vs k x))
 
-  as_list : (vs : List Waiter) → d.state.waiting ≡ vs → AreWaiting vs (harts_after h d hs) → AreWaiting d.state.waiting (harts_after h d hs)
-  as_list vs e k = subst (λ us. AreWaiting us (harts_after h d hs)) (sym e) k
+  as_list : (vs : List Waiter) → d.state.waiting ≡ vs → AreListed vs (harts_after h d hs) → AreListed d.state.waiting (harts_after h d hs)
+  as_list vs e k = subst (λ us. AreListed us (harts_after h d hs)) (sym e) k
 
   joined : (at : ℕ) → d.reply ≡ reply.Wait at → WaitsIn (harts_after h d hs) h
   joined at e =
@@ -124,25 +168,25 @@ module _ (h : ℕ) (d : Done) (hs : List Hart) (ws : List Waiter) (live : IsLive
       subst (λ r. WaitsIn (replied h r hs1) h) (sym e) (joins_waiting h at hs1 (lives_woken d.woken (written_in rs hs) h (lives_written rs hs h live)))
 
   pub not_waiting : All (λ w. w.hart ≢ h) ws
-  not_waiting k x l e = clash (hart_in hs h).status live (subst (WaitsIn hs) e (a.wait k x l))
+  not_waiting k x l e = clash (hart_in hs h).status live (subst (WaitsIn hs) e (waits k x l))
 
-  pub queue_kept : Queued ws h d → AreWaiting d.state.waiting (harts_after h d hs)
-  queue_kept (stays q e f) = as_list ws f (record { wait = left [] ws e a.wait (none_woken ws); once = a.once })
+  pub queue_kept : Queued ws h d → AreListed d.state.waiting (harts_after h d hs)
+  queue_kept (stays q e f) = as_list ws f (record { wait = left [] ws e waits (none_woken ws); once = a.once })
   queue_kept (joins at q e f) =
       as_list (ws ++ (record { hart = h; at = at }) ∷ []) f (record {
-        wait = All-push (λ v. WaitsIn (harts_after h d hs) v.hart) ws (record { hart = h; at = at }) (left [] ws e a.wait (none_woken ws)) (joined at q);
+        wait = All-push (λ v. WaitsIn (harts_after h d hs) v.hart) ws (record { hart = h; at = at }) (left [] ws e waits (none_woken ws)) (joined at q);
         once = after_join h at ws a.once not_waiting;
       })
   queue_kept (wakes n b q e f) =
       let split = after_wake n b ws a.once in
       as_list (others n b ws) f (record {
-        wait = left (first_at n b ws) (others n b ws) e (wake_all (λ v. WaitsIn hs v.hart) n b ws a.wait).1 split.not_woken;
+        wait = left (first_at n b ws) (others n b ws) e (wake_all (λ v. WaitsIn hs v.hart) n b ws waits).1 split.not_woken;
         once = split.left_once;
       })
   queue_kept (moves n b m to q e f) =
       let split = after_requeue n b m to ws a.once in
       as_list (requeued m b to (others n b ws)) f (record {
-        wait = left (first_at n b ws) (requeued m b to (others n b ws)) e (requeue_all (WaitsIn hs) m b to (others n b ws) (wake_all (λ v. WaitsIn hs v.hart) n b ws a.wait).1) split.not_woken;
+        wait = left (first_at n b ws) (requeued m b to (others n b ws)) e (requeue_all (WaitsIn hs) m b to (others n b ws) (wake_all (λ v. WaitsIn hs v.hart) n b ws waits).1) split.not_woken;
         once = split.left_once;
       })
 
@@ -154,7 +198,7 @@ module _ (h : ℕ) (d : Done) (hs : List Hart) (ws : List Waiter) (live : IsLive
 
   first_of : (n b : ℕ) → AreWoken h (harts (first_at n b ws)) hs
   first_of n b = record {
-    wait = All-map (WaitsIn hs) (λ (w : Waiter). w.hart) (first_at n b ws) (wake_all (λ w. WaitsIn hs w.hart) n b ws a.wait).0;
+    wait = All-map (WaitsIn hs) (λ (w : Waiter). w.hart) (first_at n b ws) (wake_all (λ w. WaitsIn hs w.hart) n b ws waits).0;
     once = pairs_map (λ j k. j ≢ k) (λ (w : Waiter). w.hart) (first_at n b ws) (after_wake n b ws a.once).woken_once;
     elsewhere = All-map (λ j. h ≢ j) (λ (w : Waiter). w.hart) (first_at n b ws) (λ k x l e. (wake_all (λ w. w.hart ≢ h) n b ws not_waiting).0 k x l (sym e));
   }
@@ -167,4 +211,4 @@ module _ (h : ℕ) (d : Done) (hs : List Hart) (ws : List Waiter) (live : IsLive
 
 -- at a start none waits
 pub none_waits : (hs : List Hart) → AreWaiting [] hs
-none_waits hs = record { wait = All-nil (λ w. WaitsIn hs w.hart); once = pairs_nil Other }
+none_waits hs = record { wait = All-nil (λ w. (hart_in hs w.hart).status ≡ Waiting w.at); once = pairs_nil Other }
