@@ -25,17 +25,16 @@ use Rattle.machine.specs.Harts.{is_live, has_ended, hart_in, is_in, unreserved, 
 use Rattle.machine.specs.States.{State}
 use Rattle.machine.specs.Steps.{arguments_of, call_of, end_by, called}
 use Rattle.sim_laws.specs.Origins.{origin}
-use Rattle.sim_laws.specs.Related.{Both, Lands, ValuesRelated, both_plain, both_links, MemoriesRelated, RegsRelated, PlacesRelated, whole, half, GoOnAlike, HartsRelated, StatesRelated}
+use Rattle.sim_laws.specs.Related.{Both, Lands, ValuesRelated, both_plain, both_links, MemoriesRelated, RegsRelated, PlacesRelated, whole, half, GoOnAlike, HartsRelated, is_waiting, StatesRelated}
 use Rattle.sim_laws.proofs.Lands.{plain_related}
 use Rattle.sim_laws.proofs.EffectPairs.{Follows}
 use Rattle.sim_laws.proofs.HartLists.{no_left, no_right, found_both, set_both, push_both, all_same, hart_at}
 use Rattle.sim_laws.proofs.GoingOn.{length-with_reg, regs_written, lands_alike}
-use Rattle.sim_laws.proofs.Settled.{is_waiting}
 use Rattle.sim_laws.proofs.Written.{hart_map, unreserved_related, ranges_related}
 use Rattle.sim_laws.proofs.Jumped.{IsAt, harts_of}
 use Rattle.sim_laws.proofs.Asked.{AskAlike, asked_same}
 use Rattle.sim_laws.proofs.Fair.{IsWhole, is_end, IsFair, asked_fair, ends_alike}
-use Rattle.sim_laws.proofs.Woken.{WaitsIn, hart_other, hart_set, waits_written_in, AreWoken, AreListed, found_waiting, listed_tail, now_waiting, queue_kept, queue_woken}
+use Rattle.sim_laws.proofs.Woken.{WaitsIn, hart_other, hart_set, status_written_in, AreWoken, AreListed, found_waiting, listed_tail, now_waiting, queue_kept, queue_listed, queue_woken}
 use Rattle.sim_laws.proofs.MemoryLaws.{seen_same, put_related, mapped_related, rights_related}
 
 -- ---- one hart of a list
@@ -270,7 +269,7 @@ module _ (p : Picture) (c : Code) where
       related_now =
           woken_related d.woken (written_in (ranges d.changes) r.harts) (written_in (ranges d.changes) o.harts)
           (ranges_related p c (ranges d.changes) r.harts o.harts k.states.harts)
-          (λ i x l. ap is_waiting (waits_written_in (ranges d.changes) o.harts (get_or d.woken i x) (awoken.wait i x l)) ∙ awoken.wait i x l) awoken.once
+          (λ i x l. ap is_waiting (status_written_in (ranges d.changes) o.harts (get_or d.woken i x)) ∙ awoken.wait i x l) awoken.once
 
       left_is : hart_in rs1 h ≡ unreserved (is_in (ranges d.changes)) (hart_in r.harts h)
       unfolding rs1
@@ -299,7 +298,7 @@ module _ (p : Picture) (c : Code) where
             harts =
                 listed_related d.state.waiting (replied h d.reply rs1) (replied h d.reply os1)
                 (replied_related h rs1 os1 related_now now.harts now.regs now.follows d.reply) listed;
-            waiting = now_waiting d.state.waiting (replied h d.reply os1) listed;
+            waiting = now_waiting d.state.waiting (replied h d.reply os1) listed (queue_listed h d o.harts o.system.waiting callers.live k.states.waiting fair.queue);
           }
 
     -- both calls do the same

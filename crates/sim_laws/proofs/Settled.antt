@@ -9,8 +9,6 @@ use Rattle.link_tags.specs.declared.value.Tag.TheVariants.{Link}
 use Rattle.link_tags.specs.declared.value.Value.{Value}
 use Rattle.link_tags.specs.Values.{original}
 use Rattle.hart.specs.declared.hart.Hart.{Hart}
-use Rattle.hart.specs.declared.hart.Status.{Status}
-use Rattle.hart.specs.declared.hart.Status.TheVariants.{Live, Waiting, Ended}
 use Rattle.hart.specs.Effects.{next, jump, hart_after, memory_after, answer_of}
 use Rattle.guest_sys.specs.declared.state.Waiter.{Waiter}
 use Rattle.layout.specs.Points.{Code}
@@ -20,33 +18,32 @@ use Rattle.machine.specs.Harts.{is_live, has_ended, no_hart, hart_in, unreserved
 use Rattle.machine.specs.States.{State}
 use Rattle.machine.specs.Steps.{ended, with_hart, fault_of_jump, jumped_unless, after_effect, by_answer, settled}
 use Rattle.machine.proofs.HartLists.{not_stalled}
-use Rattle.sim_laws.specs.Related.{Both, HartsRelated, AreWaiting, StatesRelated}
+use Rattle.sim_laws.specs.Related.{Both, HartsRelated, is_waiting, AreWaiting, StatesRelated}
 use Rattle.sim_laws.proofs.HartLists.{set_both, set_left, any_same, all_same, hart_at}
 
 -- ---- waiting
-abbrev pub is_waiting : Status → Bool
-is_waiting Live = false
-is_waiting (Waiting at) = true
-is_waiting Ended = false
+-- each hart's status is as it was
+abbrev pub KeepStatus : List Hart → List Hart → Type 0
+KeepStatus before now = (k : ℕ) → (hart_in now k).status ≡ (hart_in before k).status
 
--- each hart that waits does so where it did
-abbrev pub StillWait : List Hart → List Hart → Type 0
-StillWait before now = (k : ℕ) → is_waiting (hart_in before k).status ≡ true → (hart_in now k).status ≡ (hart_in before k).status
+pub waiting_kept : (ws : List Waiter) (before now : List Hart) → KeepStatus before now → AreWaiting ws before → AreWaiting ws now
+waiting_kept ws before now f a = record {
+  wait = λ k d l. f (get_or ws k d).hart ∙ a.wait k d l;
+  once = a.once;
+  listed = λ h e. a.listed h (ap is_waiting (sym (f h)) ∙ e);
+}
 
-pub waiting_kept : (ws : List Waiter) (before now : List Hart) → StillWait before now → AreWaiting ws before → AreWaiting ws now
-waiting_kept ws before now f a = record { wait = λ k d l. f (get_or ws k d).hart (ap is_waiting (a.wait k d l)) ∙ a.wait k d l; once = a.once }
+pub status_set : (hs : List Hart) (h : ℕ) (x : Hart) → x.status ≡ (hart_in hs h).status → KeepStatus hs (slice_set hs h x)
+status_set [] h x f k = refl
+status_set (y ∷ ys) zero x f zero = f
+status_set (y ∷ ys) zero x f (suc k) = refl
+status_set (y ∷ ys) (suc h) x f zero = refl
+status_set (y ∷ ys) (suc h) x f (suc k) = status_set ys h x f k
 
-pub waits_set : (hs : List Hart) (h : ℕ) (x : Hart) → (is_waiting (hart_in hs h).status ≡ true → x.status ≡ (hart_in hs h).status) → StillWait hs (slice_set hs h x)
-waits_set [] h x f k e = refl
-waits_set (y ∷ ys) zero x f zero e = f e
-waits_set (y ∷ ys) zero x f (suc k) e = refl
-waits_set (y ∷ ys) (suc h) x f zero e = refl
-waits_set (y ∷ ys) (suc h) x f (suc k) e = waits_set ys h x f k e
-
-pub waits_map : (among : ℕ → Bool) (hs : List Hart) → StillWait hs (map (unreserved among) hs)
-waits_map among [] k e = refl
-waits_map among (y ∷ ys) zero e = refl
-waits_map among (y ∷ ys) (suc k) e = waits_map among ys k e
+pub status_map : (among : ℕ → Bool) (hs : List Hart) → KeepStatus hs (map (unreserved among) hs)
+status_map among [] k = refl
+status_map among (y ∷ ys) zero = refl
+status_map among (y ∷ ys) (suc k) = status_map among ys k
 
 -- ---- a run that hasn't stalled
 not_both : (b : Bool) → (b && false) ≡ false
@@ -120,7 +117,7 @@ module _ (p : Picture) (c : Code) where
     system = s.system;
     memory = s.memory;
     harts = set_both r.harts o.harts h hr ho k s.harts;
-    waiting = waiting_kept o.system.waiting o.harts (slice_set o.harts h ho) (waits_set o.harts h ho (λ e. same)) s.waiting;
+    waiting = waiting_kept o.system.waiting o.harts (slice_set o.harts h ho) (status_set o.harts h ho same) s.waiting;
   }
 
   -- hart h of the moved machine alone goes on: a layout step

@@ -216,7 +216,7 @@ module _ (p : Picture) (kept : IsKept p) where
       system = refl;
       memory = memory_itself;
       harts = harts_itself;
-      waiting = none_waits (start_hart p ∷ []);
+      waiting = none_waits (start_hart p) refl;
     }
       where
         harts_itself : (h : ℕ) → Both (HartsRelated p c) (slice_get (start_hart p ∷ []) h) (slice_get (start_hart p ∷ []) h)

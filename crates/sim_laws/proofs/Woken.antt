@@ -1,6 +1,7 @@
 -- Harts that are woken, and those that wait on, after a call.
-use Rattle.std.proofs.Common.{◌≡◌, ◌≢◌, ℕ, zero, suc, true, List, [], ◌∷◌, ◌++◌, get_or, refl, sym, ap, ◌∙◌, subst}
-use Rattle.std.specs.Prelude.{Some, All, AllPairs, slice_get, slice_set}
+use Rattle.std.proofs.Common.{◌≡◌, ◌≢◌, ℕ, zero, suc, ◌+◌, Bool, true, false, List, [], ◌∷◌, ◌++◌, get_or, refl, sym, ap, ◌∙◌, subst}
+use Rattle.std.specs.Prelude.{◌==◌, ◌||◌, Some, All, AllPairs, slice_get, slice_set}
+use Rattle.std.proofs.lemmas.Bool.{true≢false, eqb-false}
 use Rattle.std.proofs.lemmas.List.Elements.{All-nil, All-cons, All-head, All-tail, All-map, All-push}
 use Rattle.oc_base.specs.declared.range.Range.{Range}
 use Rattle.hart.specs.declared.hart.Hart.{Hart}
@@ -13,12 +14,12 @@ use Rattle.guest_sys.specs.Waiting.{first_at, others, harts, requeued}
 use Rattle.guest_sys.specs.Calls.{Done, ranges}
 use Rattle.machine.specs.Harts.{is_live, hart_in, is_in, written_in, awake, woken, waiting_at, waiting_as, answered, stopped, child_of, replied}
 use Rattle.machine.specs.Steps.{harts_after}
-use Rattle.sim_laws.specs.Related.{AreWaiting}
+use Rattle.sim_laws.specs.Related.{is_waiting, is_listed, AreWaiting}
 use Rattle.sim_laws.proofs.HartLists.{live_at, get_set, get_other, hart_at}
-use Rattle.sim_laws.proofs.Settled.{is_waiting, StillWait, waits_set, waits_map}
+use Rattle.sim_laws.proofs.Settled.{KeepStatus, status_map}
 use Rattle.sim_laws.proofs.Written.{hart_map}
-use Rattle.sim_laws.proofs.Fair.{Queued, stays, joins, wakes, moves}
-use Rattle.sim_laws.proofs.Queue.{Other, pairs_head, pairs_tail, pairs_nil, pairs_map, after_wake, wake_all, requeue_all, after_requeue, after_join}
+use Rattle.sim_laws.proofs.Fair.{is_wait, Queued, stays, joins, wakes, moves}
+use Rattle.sim_laws.proofs.Queue.{or_some, left_listed, requeue_listed, join_listed, not_listed, Other, pairs_head, pairs_tail, pairs_nil, pairs_map, after_wake, wake_all, requeue_all, after_requeue, after_join}
 
 abbrev IsLiveIn : List Hart → ℕ → Type 0
 IsLiveIn hs h = is_live (hart_in hs h).status ≡ true
@@ -68,9 +69,20 @@ waits_woken (j ∷ js) hs k n e =
     waits_woken js (slice_set hs j (awake (hart_in hs j))) k (All-tail (λ j. k ≢ j) j js n)
     (ap (λ (x : Hart). is_waiting x.status) (hart_other hs j k (awake (hart_in hs j)) (All-head (λ j. k ≢ j) j js n)) ∙ e)
 
-pub waits_written_in : (rs : List Range) (hs : List Hart) → StillWait hs (written_in rs hs)
+pub status_written_in : (rs : List Range) (hs : List Hart) → KeepStatus hs (written_in rs hs)
 unfolding written_in
-waits_written_in rs hs = waits_map (is_in rs) hs
+status_written_in rs hs = status_map (is_in rs) hs
+
+-- each hart that waits does so where it did
+abbrev StillWait : List Hart → List Hart → Type 0
+StillWait before now = (k : ℕ) → is_waiting (hart_in before k).status ≡ true → (hart_in now k).status ≡ (hart_in before k).status
+
+waits_set : (hs : List Hart) (h : ℕ) (x : Hart) → (is_waiting (hart_in hs h).status ≡ true → x.status ≡ (hart_in hs h).status) → StillWait hs (slice_set hs h x)
+waits_set [] h x f k e = refl
+waits_set (y ∷ ys) zero x f zero e = f e
+waits_set (y ∷ ys) zero x f (suc k) e = refl
+waits_set (y ∷ ys) (suc h) x f zero e = refl
+waits_set (y ∷ ys) (suc h) x f (suc k) e = waits_set ys h x f k e
 
 waits_push : (hs : List Hart) (x : Hart) → StillWait hs (hs ++ x ∷ [])
 waits_push [] x k e = absurd (cc)
@@ -94,6 +106,52 @@ waits_replied h r hs live = λ k e. refl
 joins_waiting : (h at : ℕ) (hs : List Hart) → IsLiveIn hs h → WaitsIn (replied h (reply.Wait at) hs) h
 unfolding replied
 joins_waiting h at hs live = ap (λ (x : Hart). is_waiting x.status) (hart_set hs h (stopped (Waiting at) (hart_in hs h)) live)
+
+-- ---- no other hart waits than one that did, and hart h where it was told to wait
+no_wait : (s : Status) → is_live s ≡ true → is_waiting s ≡ false
+no_wait Live e = refl
+no_wait (Waiting at) e = absurd (cc)
+no_wait Ended e = absurd (cc)
+
+not_set : (hs : List Hart) (h : ℕ) (x : Hart) → is_waiting x.status ≡ false → WaitsIn (slice_set hs h x) h → ⊥
+not_set [] h x f e = absurd (cc)
+not_set (y ∷ ys) zero x f e = true≢false (sym e ∙ f)
+not_set (y ∷ ys) (suc h) x f e = not_set ys h x f e
+
+waited : (hs : List Hart) (h : ℕ) (x : Hart) → is_waiting x.status ≡ false → (k : ℕ) → WaitsIn (slice_set hs h x) k → WaitsIn hs k
+waited [] h x f k e = e
+waited (y ∷ ys) zero x f zero e = absurd (true≢false (sym e ∙ f))
+waited (y ∷ ys) zero x f (suc k) e = e
+waited (y ∷ ys) (suc h) x f zero e = e
+waited (y ∷ ys) (suc h) x f (suc k) e = waited ys h x f k e
+
+waited_push : (hs : List Hart) (x : Hart) → is_waiting x.status ≡ false → (k : ℕ) → WaitsIn (hs ++ x ∷ []) k → WaitsIn hs k
+waited_push [] x f zero e = absurd (true≢false (sym e ∙ f))
+waited_push [] x f (suc k) e = e
+waited_push (y ∷ ys) x f zero e = e
+waited_push (y ∷ ys) x f (suc k) e = waited_push ys x f k e
+
+waited_before : (h : ℕ) (r : Reply) (hs : List Hart) → IsLiveIn hs h → is_wait r ≡ false → (k : ℕ) → WaitsIn (replied h r hs) k → WaitsIn hs k
+unfolding replied
+waited_before h (reply.Answer value) hs live f k e = waited hs h (answered value (hart_in hs h)) (no_wait (hart_in hs h).status live) k e
+waited_before h (reply.Wait at) hs live f k e = absurd (cc)
+waited_before h reply.EndHart hs live f k e = waited hs h (stopped Ended (hart_in hs h)) refl k e
+waited_before h (reply.Clone stack thread clear tid) hs live f k e =
+    waited hs h (answered tid (hart_in hs h)) (no_wait (hart_in hs h).status live) k
+    (waited_push (slice_set hs h (answered tid (hart_in hs h))) (child_of (hart_in hs h) stack thread clear) refl k e)
+waited_before h (reply.SetClear clear) hs live f k e = waited hs h (answered (h + 1) (record (hart_in hs h) { clear = clear })) (no_wait (hart_in hs h).status live) k e
+waited_before h r hs live f k e = e
+
+told_to_wait : (h at : ℕ) (hs : List Hart) (k : ℕ) → k ≢ h → WaitsIn (replied h (reply.Wait at) hs) k → WaitsIn hs k
+unfolding replied
+told_to_wait h at hs k n e = ap (λ (x : Hart). is_waiting x.status) (sym (hart_other hs h k (stopped (Waiting at) (hart_in hs h)) n)) ∙ e
+
+not_woken : (ks : List ℕ) (hs : List Hart) (k : ℕ) → WaitsIn (woken ks hs) k → All (λ j. k ≢ j) ks × WaitsIn hs k
+not_woken [] hs k e = (All-nil (λ j. k ≢ j), e)
+not_woken (j ∷ js) hs k e =
+    let x = awake (hart_in hs j) in
+    let rest = not_woken js (slice_set hs j x) k e in
+    (All-cons (λ i. k ≢ i) j js (λ q. not_set hs j x refl (subst (WaitsIn (slice_set hs j x)) q rest.1)) rest.0, waited hs j x refl k rest.1)
 
 -- those that are woken wait, none is there twice, and hart h isn't among them
 pub record AreWoken (h : ℕ) (ks : List ℕ) (hs : List Hart) : Type 0 where
@@ -137,8 +195,15 @@ listed_at (w ∷ ws) hs a =
     (ap (λ (z : Hart). z.status) (waits_otherwise ws next w.hart (pairs_head Other w ws a.once) ∙ here))
     (listed_at ws next (listed_tail w ws hs x a))
 
-pub now_waiting : (ws : List Waiter) (hs : List Hart) → AreListed ws hs → AreWaiting ws (waiting_as ws hs)
-now_waiting ws hs a = record { wait = listed_at ws hs a; once = a.once }
+listed_now : (ws : List Waiter) (hs : List Hart) → ((k : ℕ) → WaitsIn hs k → is_listed ws k ≡ true) → (k : ℕ) → WaitsIn (waiting_as ws hs) k → is_listed ws k ≡ true
+listed_now ws hs f k e = by_test (is_listed ws k) refl
+  where
+    by_test : (b : Bool) → is_listed ws k ≡ b → is_listed ws k ≡ true
+    by_test true q = q
+    by_test false q = f k (ap (λ (x : Hart). is_waiting x.status) (sym (waits_otherwise ws hs k (not_listed k ws q))) ∙ e)
+
+pub now_waiting : (ws : List Waiter) (hs : List Hart) → AreListed ws hs → ((k : ℕ) → WaitsIn hs k → is_listed ws k ≡ true) → AreWaiting ws (waiting_as ws hs)
+now_waiting ws hs a f = record { wait = listed_at ws hs a; once = a.once; listed = listed_now ws hs f }
 
 module _ (h : ℕ) (d : Done) (hs : List Hart) (ws : List Waiter) (live : IsLiveIn hs h) (a : AreWaiting ws hs) where
   waits : All (λ w. WaitsIn hs w.hart) ws
@@ -147,7 +212,7 @@ module _ (h : ℕ) (d : Done) (hs : List Hart) (ws : List Waiter) (live : IsLive
   still : (k : ℕ) → All (λ j. k ≢ j) d.woken → WaitsIn hs k → WaitsIn (harts_after h d hs) k
   still k far e =
       let rs = ranges d.changes in
-      let w = waits_woken d.woken (written_in rs hs) k far (ap is_waiting (waits_written_in rs hs k e) ∙ e) in
+      let w = waits_woken d.woken (written_in rs hs) k far (ap is_waiting (status_written_in rs hs k) ∙ e) in
       ap is_waiting (waits_replied h d.reply (woken d.woken (written_in rs hs)) (lives_woken d.woken (written_in rs hs) h (lives_written rs hs h live)) k w) ∙ w
 
   -- those that aren't woken
@@ -190,6 +255,41 @@ module _ (h : ℕ) (d : Done) (hs : List Hart) (ws : List Waiter) (live : IsLive
         once = split.left_once;
       })
 
+  -- who waits after the call but for the one that made it
+  stays_listed : (k : ℕ) → WaitsIn (woken d.woken (written_in (ranges d.changes) hs)) k → All (λ j. k ≢ j) d.woken × (is_listed ws k ≡ true)
+  stays_listed k e =
+      let rest = not_woken d.woken (written_in (ranges d.changes) hs) k e in
+      (rest.0, a.listed k (ap is_waiting (sym (status_written_in (ranges d.changes) hs k)) ∙ rest.1))
+
+  answered_listed : is_wait d.reply ≡ false → (k : ℕ) → WaitsIn (harts_after h d hs) k → All (λ j. k ≢ j) d.woken × (is_listed ws k ≡ true)
+  answered_listed q k e =
+      let rs = ranges d.changes in
+      stays_listed k (waited_before h d.reply (woken d.woken (written_in rs hs)) (lives_woken d.woken (written_in rs hs) h (lives_written rs hs h live)) q k e)
+
+  by_caller : (at k : ℕ) → d.reply ≡ reply.Wait at → (b : Bool) → (h == k) ≡ b → WaitsIn (harts_after h d hs) k → (is_listed ws k || (h == k)) ≡ true
+  by_caller at k r true q e = ap (λ b. is_listed ws k || b) q ∙ or_some (is_listed ws k)
+  by_caller at k r false q e =
+      let hs1 = woken d.woken (written_in (ranges d.changes) hs) in
+      let told : WaitsIn (replied h (reply.Wait at) hs1) k = subst (λ x. WaitsIn (replied h x hs1) k) r e in
+      ap (λ b. b || (h == k)) (stays_listed k (told_to_wait h at hs1 k (λ n. eqb-false h k q (sym n)) told)).1
+
+  as_first : (n b k : ℕ) → d.woken ≡ harts (first_at n b ws) → All (λ j. k ≢ j) d.woken → All (λ w. k ≢ w.hart) (first_at n b ws)
+  as_first n b k e far = each (first_at n b ws) (subst (All (λ j. k ≢ j)) e far)
+    where
+      each : (vs : List Waiter) → All (λ j. k ≢ j) (harts vs) → All (λ w. k ≢ w.hart) vs
+      each [] f = All-nil (λ w. k ≢ w.hart)
+      each (v ∷ vs) f = All-cons (λ w. k ≢ w.hart) v vs (All-head (λ j. k ≢ j) v.hart (harts vs) f) (each vs (All-tail (λ j. k ≢ j) v.hart (harts vs) f))
+
+  pub queue_listed : Queued ws h d → (k : ℕ) → WaitsIn (harts_after h d hs) k → is_listed d.state.waiting k ≡ true
+  queue_listed (stays q e f) k w = ap (λ vs. is_listed vs k) f ∙ (answered_listed q k w).1
+  queue_listed (joins at q e f) k w = ap (λ vs. is_listed vs k) f ∙ join_listed h at k ws (by_caller at k q (h == k) refl w)
+  queue_listed (wakes n b q e f) k w =
+      let known = answered_listed q k w in
+      ap (λ vs. is_listed vs k) f ∙ left_listed n b k ws (as_first n b k e known.0) known.1
+  queue_listed (moves n b m to q e f) k w =
+      let known = answered_listed q k w in
+      ap (λ vs. is_listed vs k) f ∙ requeue_listed m b to k (others n b ws) (left_listed n b k ws (as_first n b k e known.0) known.1)
+
   as_woken : (ks : List ℕ) → d.woken ≡ ks → AreWoken h ks hs → AreWoken h d.woken hs
   as_woken ks e k = subst (λ js. AreWoken h js hs) (sym e) k
 
@@ -210,5 +310,13 @@ module _ (h : ℕ) (d : Done) (hs : List Hart) (ws : List Waiter) (live : IsLive
   queue_woken (moves n b m to q e f) = as_woken (harts (first_at n b ws)) e (first_of n b)
 
 -- at a start none waits
-pub none_waits : (hs : List Hart) → AreWaiting [] hs
-none_waits hs = record { wait = All-nil (λ w. (hart_in hs w.hart).status ≡ Waiting w.at); once = pairs_nil Other }
+pub none_waits : (x : Hart) → is_live x.status ≡ true → AreWaiting [] (x ∷ [])
+none_waits x live = record {
+  wait = All-nil (λ w. (hart_in (x ∷ []) w.hart).status ≡ Waiting w.at);
+  once = pairs_nil Other;
+  listed = by_number;
+}
+  where
+    by_number : (h : ℕ) → is_waiting (hart_in (x ∷ []) h).status ≡ true → is_listed [] h ≡ true
+    by_number zero e = absurd (clash x.status live e)
+    by_number (suc h) e = e
