@@ -1,5 +1,5 @@
 use Rattle.emit.proofs.Emission.{made_laid}
-use Rattle.emit.proofs.emit.made_of.Goals as goal
+use Rattle.emit.proofs.draft.made_of.Goals as goal
 
 pub of-requires : goal.of-requires
 of-requires c =
