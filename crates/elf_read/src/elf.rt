@@ -2,7 +2,6 @@
 
 ghost use Rattle.std.specs.Prelude.{◌≡◌, ◌==◌, ◌<◌, nat_eq, map, slice_get, slice_index_or, length, false};
 ghost use Rattle.std.specs.List.{list_any, starts_with};
-ghost use Rattle.elf_read.specs.declared.elf.Symbol.{Symbol as SymbolData};
 ghost use Rattle.elf_read.specs.Names.{symbol};
 ghost use Rattle.elf_read.specs.Whole.{IsWhole};
 
@@ -96,7 +95,7 @@ impl Symbols {
 
     pub fn at(&self, i: usize) -> Symbol<'_>
         requires { i < length self.now }
-        ensures { (d : SymbolData) → result ≡ slice_index_or self.now i d }
+        ensures { result ≡ slice_index_or self.now i result }
     {
         named(self.strings.as_slice(), &self.entries[i])
     }
