@@ -1,10 +1,8 @@
 //! Guests as text, and their images.
 
 use elf_make::make::make_elf;
-use elf_read::elf::Symbol;
 use elf_read::read::read_elf;
 use image::picture::Image;
-use oc_base::items::Items;
 use relocs::build::build_image;
 use rv_asm::assemble::assemble;
 use std::alloc::Global;
@@ -73,23 +71,34 @@ pub fn image_of(alloc: Global, text: &str) -> Result<Image, Fail> {
     Ok(build_image(alloc, &parts, None)?)
 }
 
-/// The image of a text's program with one more function in its text.
+/// Writes a number of 64 bits at a place.
+fn put(file: &mut [u8], at: u64, value: u64) {
+    let bytes = value.to_le_bytes();
+    for i in 0..8 {
+        if let Some(byte) = file.get_mut((at as usize).wrapping_add(i)) {
+            *byte = bytes[i];
+        }
+    }
+}
+
+/// The image of a text's program where the null symbol names one more function.
 pub fn image_with_function(alloc: Global, text: &str, from: u64, size: u64) -> Result<Image, Fail> {
     let text = text.as_bytes();
     if text.len() > 67_108_864 {
         return Err(Fail::new("too long"));
     }
     let program = assemble(alloc, text)?;
-    let file = make_elf(alloc, &program)?;
-    let mut parts = read_elf(alloc, file.as_slice())?;
-    parts.symbols.push(Symbol {
-        name: Items::new(alloc),
-        info: 2,
-        section: 1,
-        value: from,
-        size,
-    })?;
-    Ok(build_image(alloc, &parts, None)?)
+    let mut file = make_elf(alloc, &program)?.into_vec();
+    let whole = read_elf(alloc, &file)?;
+    for section in whole.parts().sections.as_slice() {
+        if section.kind == 2 {
+            put(&mut file, section.offset, 0x0001_0002_0000_0000);
+            put(&mut file, section.offset.wrapping_add(8), from);
+            put(&mut file, section.offset.wrapping_add(16), size);
+        }
+    }
+    let changed = read_elf(alloc, &file)?;
+    Ok(build_image(alloc, &changed, None)?)
 }
 
 /// The number that decimal digits say.
