@@ -55,11 +55,7 @@ pub struct Draft<'a> {
 impl Draft<'_> {
     /// The words of a plan, or the first of its functions that can't be cut into blocks.
     #[tactic(auto, using(plans::proofs::Planned::planned))]
-    pub fn of<'a>(
-        alloc: Global,
-        image: &'a Image,
-        plan: &'a Plan,
-    ) -> Result<Draft<'a>, EmitFault>
+    pub fn of<'a>(alloc: Global, image: &'a Image, plan: &'a Plan) -> Result<Draft<'a>, EmitFault>
         requires { plan_fault image.now plan.now ≡ None }
         ensures image { IfOk result (λ draft. draft.image.now ≡ image.now) }
         ensures plan { IfOk result (λ draft. draft.plan.now ≡ plan.now) }

@@ -6,7 +6,8 @@ use crate::guests::{
     image_with_function, number,
 };
 use blocks::fault::Unreadable;
-use blocks::recover::{recover, runs};
+use blocks::index::FuncIndex;
+use blocks::recover::recover;
 use blocks::run::Block;
 use image::picture::Image;
 use std::alloc::{AllocError, Global};
@@ -182,7 +183,10 @@ fn runs_have_their_words(rt: HostRuntime) -> Result<(), Fail> {
     if image.funcs().len() < 2 {
         return Err(Fail::new("no such function"));
     }
-    let Ok(runs) = runs(alloc, &image, 1) else {
+    let Ok(index) = FuncIndex::new(alloc, &image) else {
+        return Err(Fail::new("out of memory"));
+    };
+    let Ok(runs) = index.runs(alloc, 1) else {
         return Err(Fail::new("no blocks"));
     };
     let mut text = String::new(alloc);

@@ -30,7 +30,7 @@ pub returns-clause-first : goal.returns-clause-first
 returns-clause-first c =
     none_after c.args.funcs.now c.args.all.now c.args.n c.args.f.now c.keys_up_to-before.result c.requires.rise c.requires.filled c.requires.reaches c.requires.there
     c.keys_up_to-before.ensures.within c.keys_up_to-before.ensures.up_to c.keys_up_to-before.ensures.others (omega (arith, c.if-before-n.false)) (λ l.
-      elim c.else-after-funcs.branch [
-        | else-after-funcs-via-then-after-funcs+else-funcs-after w ↦ subst (λ (g : Func). c.args.f.now.to ≤ g.from) (get_or_default c.args.funcs.now (c.args.n + 1) _ c.args.f.now l) w.if-funcs-after.false
-        | else-after-funcs-via-else-after-funcs w ↦ absurd (omega (arith, w.if-after-funcs.false, l))
-      ])
+    elim c.else-after-funcs.branch [
+      | else-after-funcs-via-then-after-funcs+else-funcs-after w ↦ subst (λ (g : Func). c.args.f.now.to ≤ g.from) (get_or_default c.args.funcs.now (c.args.n + 1) _ c.args.f.now l) w.if-funcs-after.false
+      | else-after-funcs-via-else-after-funcs w ↦ absurd (omega (arith, w.if-after-funcs.false, l))
+    ])
