@@ -3,6 +3,7 @@ pub mod Header
 pub mod Tables
 pub mod Faults
 pub mod Names
+pub mod Relocs
 pub mod Parts
 pub mod Whole
 pub mod Spans

@@ -5,7 +5,8 @@ ghost use Rattle.std.specs.List.{list_any, starts_with};
 ghost use Rattle.elf_read.specs.Names.{symbol};
 ghost use Rattle.elf_read.specs.Whole.{IsWhole};
 
-use crate::tables::{Reloc, SymbolEntry};
+use crate::relocs::Relocs;
+use crate::tables::SymbolEntry;
 use oc_base::items::Items;
 use std::marker::Model;
 
@@ -133,7 +134,7 @@ pub struct Elf {
     pub segments: Items<Segment>,
     pub sections: Items<Section>,
     pub symbols: Symbols,
-    pub relocs: Items<Reloc>,
+    pub relocs: Relocs,
 }
 
 /// The parts of a file without a fault, which fit and lie apart.

@@ -1,14 +1,15 @@
 //! The parts, read one by one.
 
-ghost use Rattle.std.specs.Prelude.{◌≡◌, ◌/◌, ◌++◌, ◌==◌, ◌<◌, length, map, position, Some, None, IfSome, IfOk, OnOk, false};
+ghost use Rattle.std.specs.Prelude.{◌≡◌, ◌/◌, ◌++◌, ◌==◌, ◌&&◌, ◌<◌, length, map, filter, position, Some, None, IfSome, IfOk, OnOk, false};
 ghost use Rattle.elf_read.specs.Tables.{table};
 ghost use Rattle.elf_read.specs.Faults.{is_outside, is_loaded, first_outside_segment, first_outside_section, is_table, is_symbols};
-ghost use Rattle.elf_read.specs.Parts.{segment, segments, section, strings, symbols, relocs_of, relocs};
+ghost use Rattle.elf_read.specs.Parts.{segment, segments, section, strings, symbols, relocs};
 
 use crate::checks::is_loaded;
 use crate::elf::{Section, Segment, Symbols};
 use crate::fields::range_of;
-use crate::tables::{Entry, ProgramHeader, Reloc, SectionHeader, SymbolEntry, read_table};
+use crate::relocs::Relocs;
+use crate::tables::{Entry, ProgramHeader, SectionHeader, SymbolEntry, read_table};
 use oc_base::fault::NoMemory;
 use oc_base::items::Items;
 use std::alloc::Global;
@@ -76,47 +77,37 @@ fn entries_of<E: Entry>(alloc: Global, bytes: &[u8], s: &SectionHeader) -> Resul
     read_table(alloc, bytes, s.offset as usize, count)
 }
 
-/// Adds the relocations of one section.
-#[tactic(auto, unfolding(crate::specs::Parts::relocs_of))]
-fn push_relocs(
+fn reloc_sections(
     alloc: Global,
-    out: &mut Vec<Reloc>,
-    bytes: &[u8],
-    s: &SectionHeader,
-    n: u64,
-) -> Result<(), NoMemory>
-    requires { is_outside (length bytes.now) s.now.offset s.now.size ≡ false }
-    ensures { OnOk result (out.new.items ≡ out.old.items ++ relocs_of bytes.now n s.now) }
+    sections: &[SectionHeader],
+    place: usize,
+) -> Result<Vec<SectionHeader>, NoMemory>
+    ensures { IfOk result (λ v. v.items ≡ filter (λ s. s.kind == 4 && s.link == place) sections.now) }
 {
-    let entries: Vec<Reloc> = entries_of(alloc, bytes, s)?;
-    let entries = entries.as_slice();
-    for r in entries {
-        if (r.symbol as u64) < n {
-            out.push(*r)?;
+    let mut all = Vec::new(alloc);
+    for s in sections {
+        if s.kind == 4 && s.link as usize == place {
+            all.push(*s)?;
         }
     }
-    Ok(())
+    Ok(all)
 }
 
 /// The relocations of the sections that name the symbol table.
-#[tactic(auto, unfolding(crate::specs::Parts::relocs), using(finite::proofs::Filtered::flat_map_filter_more, crate::proofs::Loops::section_inside))]
+#[tactic(auto, unfolding(crate::specs::Parts::relocs))]
 pub fn relocs(
     alloc: Global,
     bytes: &[u8],
     sections: &[SectionHeader],
     place: usize,
     n: u64,
-) -> Result<Items<Reloc>, NoMemory>
+) -> Result<Relocs, NoMemory>
     requires { first_outside_section (length bytes.now) sections.now ≡ None }
     ensures { IfOk result (λ v. v ≡ relocs bytes.now sections.now place n) }
 {
-    let mut all = Vec::new(alloc);
-    for s in sections {
-        if s.kind == 4 && s.link as usize == place {
-            push_relocs(alloc, &mut all, bytes, s, n)?;
-        }
-    }
-    Ok(Items::from_vec(all))
+    let tables = reloc_sections(alloc, sections, place)?;
+    let bytes = Items::from_slice(alloc, bytes)?;
+    Ok(Relocs::of(bytes, tables, n))
 }
 
 /// The strings that a section names.

@@ -103,7 +103,8 @@ fn image_of(
 {
     let segments = elf.segments.as_slice();
     let symbols = &elf.symbols;
-    let relocs = elf.relocs.as_slice();
+    let entries = elf.relocs.distinct(alloc)?;
+    let relocs = entries.as_slice();
     let lines = texts.as_slice();
     text_laws(elf, lines, region);
     let parts = sorted_parts(alloc, segments, lines)?;
