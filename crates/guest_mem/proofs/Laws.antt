@@ -20,7 +20,7 @@ use Rattle.guest_mem.specs.Words.{plain_bytes_of, IsSpliced}
 use Rattle.finite.specs.Maps.{contains_all}
 use Rattle.link_tags.specs.Values.{original}
 
-not_true : (b : Bool) → (b ≡ true → ⊥) → b ≡ false
+pub not_true : (b : Bool) → (b ≡ true → ⊥) → b ≡ false
 not_true true h = absurd (h refl)
 not_true false h = refl
 

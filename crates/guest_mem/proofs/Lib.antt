@@ -1,5 +1,10 @@
+pub mod BitLaws
+pub mod ChangeLaws
 pub mod FlatLaws
 pub mod Laws
 pub mod LinkLaws
+pub mod PageLaws
+pub mod PagedLaws
 pub mod PutLaws
 pub mod Reading
+pub mod WordLinks

@@ -26,10 +26,10 @@ pub record Puts (base : ℕ → ℕ) (m m' : Memory) (a n : ℕ) (f : ℕ → �
   pub readable : (q : ℕ) → contains m'.readable q ≡ contains m.readable q
   pub writable : (q : ℕ) → contains m'.writable q ≡ contains m.writable q
 
-not_yet : (first cur v : ℕ) → cur ≤ v → done first cur v ≡ false
+pub not_yet : (first cur v : ℕ) → cur ≤ v → done first cur v ≡ false
 not_yet first cur v h = grind (arith, nat_tests)
 
-none_done : (first v : ℕ) → done first first v ≡ false
+pub none_done : (first v : ℕ) → done first first v ≡ false
 none_done first v = grind (arith, nat_tests)
 
 pub puts_none : (base : ℕ → ℕ) (m : Memory) (a n : ℕ) (f : ℕ → ℕ) → Puts base m m a n f (a / 8)
@@ -42,10 +42,10 @@ puts_none base m a n f =
       writable = λ q. refl;
     }
 
-in_done : (first cur v : ℕ) → first ≤ cur → v ≡ cur → done first (cur + 1) v ≡ true
+pub in_done : (first cur v : ℕ) → first ≤ cur → v ≡ cur → done first (cur + 1) v ≡ true
 in_done first cur v h e = grind (arith, nat_tests)
 
-same_done : (first cur v : ℕ) → (v ≡ cur → ⊥) → done first (cur + 1) v ≡ done first cur v
+pub same_done : (first cur v : ℕ) → (v ≡ cur → ⊥) → done first (cur + 1) v ≡ done first cur v
 same_done first cur v h = grind (arith, nat_tests)
 
 one_more : {X : Type 0} (first cur v : ℕ) (x y : X) → first ≤ cur → cond (nat_eq v cur) x (cond (done first cur v) x y) ≡ cond (done first (cur + 1) v) x y
@@ -96,12 +96,12 @@ puts_more base m m' a n f cur old x h p b put =
       writable = p.writable;
     }
 
-ends : (a n v : ℕ) → 0 < n → within (a / 8) (touched a n) v ≡ done (a / 8) ((a + n + 7) / 8) v
+pub ends : (a n v : ℕ) → 0 < n → within (a / 8) (touched a n) v ≡ done (a / 8) ((a + n + 7) / 8) v
 ends a n v h =
     let e : nat_eq n 0 ≡ false = ne_eqb n 0 (omega arith) in
     rw e (grind (arith, nat_tests))
 
-inside : (a n v j : ℕ) → j < 8 → within a n (8 * v + j) ≡ true → done (a / 8) ((a + n + 7) / 8) v ≡ true
+pub inside : (a n v j : ℕ) → j < 8 → within a n (8 * v + j) ≡ true → done (a / 8) ((a + n + 7) / 8) v ≡ true
 inside a n v j lt h =
     let p = and_parts (nat_le a (8 * v + j)) (nat_lt (8 * v + j) (a + n)) h in
     let lo = leb-true a (8 * v + j) p.0 in
@@ -162,7 +162,7 @@ fill_none : (m : Table) (lo : ℕ) (f : ℕ → ℕ) → fill m lo 0 f ≡ m
 unfolding fill
 fill_none m lo f = refl
 
-mark_none : (s : Places) (lo : ℕ) (p : ℕ → Bool) → mark s lo 0 p ≡ s
+pub mark_none : (s : Places) (lo : ℕ) (p : ℕ → Bool) → mark s lo 0 p ≡ s
 unfolding mark
 mark_none s lo p = refl
 

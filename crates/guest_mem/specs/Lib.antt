@@ -1,5 +1,8 @@
 pub mod Access
+pub mod Bits
 pub mod Flat
 pub mod Memory
+pub mod Paged
+pub mod Pages
 pub mod Store
 pub mod Words

@@ -10,13 +10,16 @@ use link_tags::value::Tag;
 use rv_isa::instr::Width;
 
 /// The number that 8 bytes are.
+#[inline]
 pub fn number(bytes: [u8; 8]) -> u64
-    ensures { result ≡ number_of bytes }
+    ensures value { result ≡ number_of bytes }
+    ensures back { bytes_of result ≡ bytes }
 {
     u64::from_le_bytes(bytes)
 }
 
 /// The bytes of a number.
+#[inline]
 pub fn bytes(number: u64) -> [u8; 8]
     ensures { result ≡ bytes_of number }
 {

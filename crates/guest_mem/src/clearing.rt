@@ -45,7 +45,7 @@ fn clear_word<S: WordStore>(store: &mut S, w: u64, range: Range)
 }
 
 /// The word `w`, which was `old`, with zeros at those bytes of the range that it has.
-fn zeroed(old: Word, w: u64, range: Range) -> Word
+pub fn zeroed(old: Word, w: u64, range: Range) -> Word
     requires word { w < 0x0200_0000 }
     requires end { range.to ≤ 0x1000_0000 }
     ensures full { length result.bytes ≡ 8 }

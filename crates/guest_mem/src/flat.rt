@@ -1,8 +1,8 @@
 //! Memory in ordered maps.
-ghost use Rattle.std.specs.Prelude.{◌≡◌, ◌-◌, IfOk};
+ghost use Rattle.std.specs.Prelude.{◌≡◌, ◌-◌, ◌+◌, ◌^◌, ◌≤◌, IfOk};
 ghost use Rattle.std.specs.Ordering.{nat_cmp};
 ghost use Rattle.std.specs.BTreeMap.{IsOrdered};
-ghost use Rattle.finite.specs.Maps.{contains, nowhere, within};
+ghost use Rattle.finite.specs.Maps.{contains, contains_all, nowhere, within};
 ghost use Rattle.guest_mem.specs.Memory.{blank};
 ghost use Rattle.guest_mem.specs.Flat.{flat_rights, gives, flat_links, AllLow};
 
@@ -87,12 +87,25 @@ impl WordStore for FlatMem {
         Ok(())
     }
 
+    fn make_room(&mut self, w: u64) -> Result<(), NoMemory> {
+        let word = WordStore::word(self, w);
+        let Ok(_) = self.words.insert(w, word) else {
+            return Err(NoMemory);
+        };
+        Ok(())
+    }
+
     fn has_room(&self, w: u64) -> bool {
         self.words.contains_key(&w)
     }
 
     fn has_right(&self, right: Right, at: u64) -> bool {
         has_right(&self.rights, right, at)
+    }
+
+    fn have_rights(&self, right: Right, at: u64, n: u64) -> bool {
+        WordStore::bounded(self);
+        have_rights(&self.rights, right, at, n)
     }
 
     fn bounded(&self) {
@@ -218,6 +231,19 @@ fn has_right(rights: &VecDeque<Span>, right: Right, at: u64) -> bool
         }
     }
     false
+}
+
+/// Whether each of the `n` bytes at `at` has a right.
+fn have_rights(rights: &VecDeque<Span>, right: Right, at: u64, n: u64) -> bool
+    requires { at + n ≤ 2 ^ 64 }
+    ensures { result ≡ contains_all (flat_rights (gives right) rights.now.items) at n }
+{
+    for k in 0..n {
+        if !has_right(rights, right, at + k) {
+            return false;
+        }
+    }
+    true
 }
 
 /// The links among words, with their addresses and numbers.

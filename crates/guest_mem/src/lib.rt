@@ -5,10 +5,13 @@
 #![tactic(auto)]
 
 mod access;
+mod bits;
 mod bytes;
 mod clearing;
 pub mod fault;
 pub mod flat;
+pub mod page;
+pub mod paged;
 pub mod store;
 #[cfg(test)]
 mod tests;

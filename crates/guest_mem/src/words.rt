@@ -1,6 +1,6 @@
 //! Memory word by word: what a representation gives, and all that the accesses are written over.
-ghost use Rattle.std.specs.Prelude.{◌≡◌, ℕ, OnOk, OnErr, ◌<◌, true, false};
-ghost use Rattle.finite.specs.Maps.{Places, contains};
+ghost use Rattle.std.specs.Prelude.{◌≡◌, ℕ, OnOk, OnErr, ◌+◌, ◌%◌, ◌<◌, ◌≤◌, true, false};
+ghost use Rattle.finite.specs.Maps.{Places, contains, contains_all};
 ghost use Rattle.guest_mem.specs.Memory.{Memory, word_of, with_word, with_right, no_word};
 ghost use Rattle.guest_mem.specs.Access.{KeepsRoom, IsBelowEnd};
 
@@ -34,7 +34,6 @@ pub trait WordStore {
         requires { w < 0x0200_0000 }
         ensures ok { OnOk result (contents self.new ≡ with_word (contents self.old) w word) }
         ensures err { OnErr result (contents self.new ≡ contents self.old) }
-        ensures made { OnOk result (contains (room self.new) w ≡ true) }
         ensures room { KeepsRoom (room self.old) (room self.new) }
         ensures roomy { OnErr result (contains (room self.old) w ≡ false) };
 
@@ -50,15 +49,18 @@ pub trait WordStore {
         ensures same { contents self.new ≡ contents self.old }
         ensures made { OnOk result (contains (room self.new) w ≡ true) }
         ensures room { KeepsRoom (room self.old) (room self.new) }
-        ensures roomy { OnErr result (contains (room self.old) w ≡ false) }
-    {
-        let word = self.word(w);
-        self.set_word(w, word)
-    }
+        ensures roomy { OnErr result (contains (room self.old) w ≡ false) };
 
     /// Whether the byte `at` has a right.
     fn has_right(&self, right: Right, at: u64) -> bool
         ensures { result ≡ contains (with_right (contents self.now) right) at };
+
+    /// Whether each of the `n` bytes at `at`, which lie in one word, has a right.
+    fn have_rights(&self, right: Right, at: u64, n: u64) -> bool
+        requires some { 0 < n }
+        requires word { at % 8 + n ≤ 8 }
+        ensures value { result ≡ contains_all (with_right (contents self.now) right) at n }
+        ensures end { result ≡ true → at + n ≤ 0x1000_0000 };
 
     /// Rights and links lie below the end of guest addresses. It does nothing.
     fn bounded(&self)

@@ -3,7 +3,7 @@ use Rattle.finite.specs.Maps.{contains}
 use Rattle.guest_mem.specs.Flat.{AllLow}
 use Rattle.guest_mem.proofs.LinkLaws.{low_insert}
 use Rattle.guest_mem.specs.Memory.{with_word}
-use Rattle.guest_mem.proofs.FlatLaws.{made_room, flat_set, kept_room, flat_word, passes}
+use Rattle.guest_mem.proofs.FlatLaws.{flat_set, kept_room, flat_word, passes}
 use Rattle.guest_mem.proofs.flat.FlatMemWordStore.set_word.Goals as goal
 
 pub returns-in_default-clause-roomy : goal.returns-in_default-clause-roomy
@@ -20,9 +20,6 @@ returns-clause-ok c =
 pub returns-clause-room : goal.returns-clause-room
 returns-clause-room c v had =
     kept_room c.self.inside.words.entries c.insert.new.self.entries c.args.w c.args.word c.in-Ok.ensures.updates.0 v (ap (λ s. contains s.room v) c.self.view_is ∙ had)
-
-pub returns-clause-made : goal.returns-clause-made
-returns-clause-made c = made_room c.self.inside.words.entries c.insert.new.self.entries c.args.w c.args.word c.in-Ok.ensures.updates.0
 
 pub invariant_of-self-2 : goal.invariant_of-self-2
 invariant_of-self-2 c =
