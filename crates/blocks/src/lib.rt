@@ -3,6 +3,7 @@
 
 pub mod cut;
 pub mod fault;
+pub mod index;
 pub mod laws;
 pub mod read;
 pub mod recover;

@@ -17,7 +17,6 @@ jumps: .func main; jal x0,over; addi x5,x0,1; over: jalr x0,0(x5); jalr x1,0(x5)
 zero word: .func main; addi x17,x0,93; ecall; .end; .func bad; .word 0; .end
 faults: .func a; nop; beq x0,x0,0x10000; beq x0,x0,0x1000c; .end/.func b; beq x0,x0,0x10000; .end/.func c; beq x0,x0,0x10002; .end/.func d; nop; beq x0,x0,0x10016; .end/.func e; jal x0,0x10002; .word 0; .end/.func f; .word 0; jal x0,0x10022; .end/.func g; nop; beq x0,x0,0x1002e; beq x0,x0,0x10000; .end
 neighbours: .func a; nop; nop; .end; .func b; nop; nop; .end
-three: .func a; nop; nop; .end; .func b; nop; nop; .end/.func c; nop; nop; .end
 far call: .func main; call leaf; addi x17,x0,93; ecall; .end/.func leaf; ret; .end
 fork: .func main; addi x5,x0,3; blt x5,x6,less; addi x6,x0,1; less: addi x7,x0,2; ret; .end
 last falls: .func main; jal x1,last; .end/.func last; beq x5,x6,last; .end

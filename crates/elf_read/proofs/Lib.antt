@@ -1,3 +1,4 @@
 pub mod BadLemmas
 pub mod Loops
+pub mod NameLemmas
 pub mod Wholes

@@ -1,13 +1,12 @@
 //! The parts, read one by one.
 
 ghost use Rattle.std.specs.Prelude.{◌≡◌, ◌/◌, ◌++◌, ◌==◌, ◌<◌, length, map, position, Some, None, IfSome, IfOk, OnOk, false};
-ghost use Rattle.std.specs.List.{before_first};
 ghost use Rattle.elf_read.specs.Tables.{table};
 ghost use Rattle.elf_read.specs.Faults.{is_outside, is_loaded, first_outside_segment, first_outside_section, is_table, is_symbols};
-ghost use Rattle.elf_read.specs.Parts.{segment, segments, section, strings, name_at, symbol, symbols, relocs_of, relocs};
+ghost use Rattle.elf_read.specs.Parts.{segment, segments, section, strings, symbols, relocs_of, relocs};
 
 use crate::checks::is_loaded;
-use crate::elf::{Section, Segment, Symbol};
+use crate::elf::{Section, Segment, Symbols};
 use crate::fields::range_of;
 use crate::tables::{Entry, ProgramHeader, Reloc, SectionHeader, SymbolEntry, read_table};
 use oc_base::fault::NoMemory;
@@ -44,46 +43,6 @@ pub fn sections(alloc: Global, headers: &[SectionHeader]) -> Result<Items<Sectio
     Ok(Items::from_vec(all))
 }
 
-fn first_zero(texts: &[u8]) -> Option<usize>
-    ensures first { result ≡ position (λ b. b == 0) texts.now }
-    ensures within { IfSome result (λ i. i < length texts.now) }
-{
-    texts.iter().position(|b| *b == 0)
-}
-
-/// What stands before the first zero byte.
-#[tactic(auto, using(finite::proofs::Finding::before_found, finite::proofs::Finding::before_none))]
-fn before_zero(texts: &[u8]) -> &[u8]
-    ensures { result.now ≡ before_first (λ b. b == 0) texts.now }
-{
-    match first_zero(texts) {
-        Some(end) => &texts[..end],
-        None => texts,
-    }
-}
-
-/// The bytes from an offset of the strings up to the next zero byte.
-#[tactic(auto, unfolding(crate::specs::Parts::name_at))]
-fn name_at(alloc: Global, texts: &[u8], at: u32) -> Result<Items<u8>, NoMemory>
-    ensures { IfOk result (λ name. name ≡ name_at texts.now at) }
-{
-    let at = (at as usize).min(texts.len());
-    Items::from_slice(alloc, before_zero(&texts[at..]))
-}
-
-#[tactic(auto, unfolding(crate::specs::Parts::symbol))]
-fn symbol(alloc: Global, texts: &[u8], e: &SymbolEntry) -> Result<Symbol, NoMemory>
-    ensures { IfOk result (λ s. s ≡ symbol texts.now e.now) }
-{
-    Ok(Symbol {
-        name: name_at(alloc, texts, e.name)?,
-        info: e.info,
-        section: e.section,
-        value: e.value,
-        size: e.size,
-    })
-}
-
 /// The loaded segments, with their bytes.
 #[tactic(auto, unfolding(crate::specs::Parts::segments), using(finite::proofs::Filtered::map_filter_more, crate::proofs::Loops::segment_inside))]
 pub fn segments(
@@ -99,16 +58,6 @@ pub fn segments(
         if is_loaded(h) {
             all.push(segment(alloc, bytes, h)?)?;
         }
-    }
-    Ok(Items::from_vec(all))
-}
-
-fn named(alloc: Global, texts: &[u8], entries: &[SymbolEntry]) -> Result<Items<Symbol>, NoMemory>
-    ensures { IfOk result (λ v. v ≡ map (symbol texts.now) entries.now) }
-{
-    let mut all = Vec::new(alloc);
-    for e in entries {
-        all.push(symbol(alloc, texts, e)?)?;
     }
     Ok(Items::from_vec(all))
 }
@@ -191,13 +140,13 @@ pub fn symbols(
     bytes: &[u8],
     sections: &[SectionHeader],
     place: usize,
-) -> Result<Items<Symbol>, NoMemory>
+) -> Result<Symbols, NoMemory>
     requires sections { first_outside_section (length bytes.now) sections.now ≡ None }
     requires place { position is_symbols sections.now ≡ Some place }
     ensures { IfOk result (λ v. v ≡ symbols bytes.now sections.now) }
 {
     let s = sections[place];
-    let texts = strings(bytes, sections, s.link);
+    let strings = Items::from_slice(alloc, strings(bytes, sections, s.link))?;
     let entries: Vec<SymbolEntry> = entries_of(alloc, bytes, &s)?;
-    named(alloc, texts, &entries)
+    Ok(Symbols::of(strings, entries))
 }

@@ -98,11 +98,11 @@ fn the_first_fault_is_told(rt: HostRuntime) -> Result<(), Fail> {
     Ok(())
 }
 
-/// A guest of three functions, whose third has the second word of the first and the first of the second.
+/// The null symbol names one more function, which has the second word of the first and the first word of the second.
 const OVERLAPPING: &str = "\
-three with 1068:8:10004 | 0 = overlap 1
-three with 1068:8:10004 | 1 = overlap 0
-three with 1068:8:10004 | 2 = overlap 1";
+neighbours with 1010:8:1000200000000 1018:8:10004 1020:8:8 | 0 = overlap 1
+neighbours with 1010:8:1000200000000 1018:8:10004 1020:8:8 | 1 = overlap 0
+neighbours with 1010:8:1000200000000 1018:8:10004 1020:8:8 | 2 = overlap 1";
 
 #[test]
 fn functions_that_overlap_have_no_blocks(rt: HostRuntime) -> Result<(), Fail> {

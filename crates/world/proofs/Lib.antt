@@ -5,6 +5,7 @@ pub mod Moving
 pub mod Placing
 pub mod Replacement
 pub mod Running
+pub mod SoundAgain
 pub mod Starting
 pub mod Stepping
 pub mod Telling

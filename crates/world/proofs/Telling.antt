@@ -6,7 +6,6 @@ use Rattle.image.specs.declared.ranges.Aim.{Aim}
 use Rattle.guest_mem.specs.Access.{links_of}
 use Rattle.hart.specs.declared.hart.Hart.{Hart}
 use Rattle.layout.specs.Laid.{Laid}
-use Rattle.sched_log.specs.declared.facts.Facts.{Facts}
 use Rattle.sched_log.specs.declared.facts.Refused.{Refused}
 use Rattle.sched_log.specs.declared.facts.LayoutFact.{LayoutFact}
 use Rattle.sched_log.specs.declared.facts.HartFact.{HartFact}

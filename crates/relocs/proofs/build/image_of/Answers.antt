@@ -16,7 +16,7 @@ of-requires c =
     let ps = c.in_ok-parts.parts.items in
     let fs = c.in_ok-funcs.funcs.items in
     let rs = c.as_slice-relocs.result.now in
-    let ss = c.as_slice-symbols.result.now in
+    let ss = c.args.elf.now.symbols in
     record {
       texts_fit = rw lines at c.text_laws.ensures.fit;
       texts_rise = rw lines at c.text_laws.ensures.rise;
@@ -47,7 +47,6 @@ returns c =
     let pieces = c.as_slice-data.ensures.value in
     let code = c.as_slice-code.ensures.value in
     let segments = c.as_slice-segments.ensures in
-    let symbols = c.as_slice-symbols.ensures in
     let relocs = c.as_slice-relocs.ensures in
     rw c.of.ensures (record {
       texts = record { same = c.requires.same; rise = rw lines at c.text_laws.ensures.starts };
@@ -57,9 +56,9 @@ returns c =
       };
       entry = refl;
       region = refl;
-      funcs = rw (lines, symbols) at c.in_ok-funcs.ensures;
+      funcs = rw lines at c.in_ok-funcs.ensures;
       sites = rw (lines, code, relocs) at c.in_ok-sites.ensures;
       pairs = rw (lines, code, relocs) at c.in_ok-pairs.ensures;
-      slots = rw (pieces, code, symbols, relocs) at c.in_ok-slots.ensures;
+      slots = rw (pieces, code, relocs) at c.in_ok-slots.ensures;
       headers = c.headers_of-headers.ensures;
     })

@@ -1,6 +1,5 @@
-use Rattle.std.proofs.Common.{ℕ, ◌<◌, ◌^◌, List, sym, ap, ◌∙◌, subst}
-use Rattle.std.specs.Prelude.{Some, None, All}
-use Rattle.sched_log.specs.declared.facts.Refusal.{Refusal}
+use Rattle.std.proofs.Common.{ℕ, ◌<◌, ◌^◌, List, sym, ◌∙◌, subst}
+use Rattle.std.specs.Prelude.{All}
 use Rattle.world.specs.Replacing.{Refuses}
 use Rattle.world.proofs.Placing.{fit_whole, fit_low, is_new, is_fit, full_refuses, emit_refuses}
 use Rattle.world.proofs.place.layout_of.Goals as goal
