@@ -1,3 +1,4 @@
 pub mod Reading
 pub mod Cutting
+pub mod Overlapping
 pub mod Soundness

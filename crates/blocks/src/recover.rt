@@ -1,10 +1,10 @@
 //! The blocks of a function of an image.
 
-ghost use Rattle.std.specs.Prelude.{◌≡◌, ◌≢◌, ◌<◌, ◌+◌, ◌^◌, length, slice_get, All, map, Some, None, IfOk, IfErr, OnOk};
+ghost use Rattle.std.specs.Prelude.{◌≡◌, ◌≢◌, ◌<◌, ◌+◌, ◌^◌, length, slice_get, All, map, position, Some, None, IfOk, IfErr, OnOk};
 ghost use Rattle.image.specs.Picture.{IsFunc};
 ghost use Rattle.blocks.specs.declared.fault.Unreadable.TheVariants.{NoMemory};
 ghost use Rattle.blocks.specs.Words.{words_of};
-ghost use Rattle.blocks.specs.Faults.{fault_in, fault_of};
+ghost use Rattle.blocks.specs.Faults.{overlaps, fault_in, fault_of};
 ghost use Rattle.blocks.specs.Blocks.{runs_in, runs_of, block_of, blocks_of};
 
 use crate::cut::runs_in;
@@ -18,16 +18,22 @@ use oc_base::items::Items;
 use oc_base::range::Range;
 use std::alloc::Global;
 
-/// The blocks of a function, or its first fault.
+/// The blocks of a function that shares an address with this other one first, or its first fault.
 #[tactic(auto, unfolding(crate::specs::Faults::fault_in), using(crate::proofs::Reading::func_low))]
-fn runs_or_fault(alloc: Global, image: &Image, f: &Func) -> Result<Vec<Run>, Unreadable>
-    requires { IsFunc image.now.texts f.now }
+pub(crate) fn runs_or_fault(
+    alloc: Global,
+    image: &Image,
+    f: &Func,
+    overlap: Option<u32>,
+) -> Result<Vec<Run>, Unreadable>
+    requires fits { IsFunc image.now.texts f.now }
+    requires overlap { overlap ≡ position (overlaps f.now) image.now.funcs }
     ensures is { IfOk result (λ runs. runs.items ≡ runs_in f.now (words_of image.now.texts f.now)) }
     ensures none { OnOk result (fault_in image.now.texts image.now.funcs f.now ≡ None) }
     ensures fault { IfErr result (λ e. e ≢ NoMemory → fault_in image.now.texts image.now.funcs f.now ≡ Some e) }
 {
     image.kept();
-    if let Some(g) = overlapped(image.funcs(), f) {
+    if let Some(g) = overlap {
         return Err(Unreadable::Overlap(g));
     }
     let words = match read(alloc, image, f) {
@@ -39,7 +45,7 @@ fn runs_or_fault(alloc: Global, image: &Image, f: &Func) -> Result<Vec<Run>, Unr
 }
 
 /// A function by its number.
-fn function(image: &Image, f: u32) -> Func
+pub(crate) fn function(image: &Image, f: u32) -> Func
     requires { f < length image.now.funcs }
     ensures is { slice_get image.now.funcs f ≡ Some result }
     ensures fits { IsFunc image.now.texts result }
@@ -56,8 +62,10 @@ pub fn runs(alloc: Global, image: &Image, f: u32) -> Result<Items<Run>, Unreadab
     ensures none { OnOk result (fault_of image.now f ≡ None) }
     ensures fault { IfErr result (λ e. e ≢ NoMemory → fault_of image.now f ≡ Some e) }
 {
+    image.kept();
     let func = function(image, f);
-    match runs_or_fault(alloc, image, &func) {
+    let overlap = overlapped(image.funcs(), &func);
+    match runs_or_fault(alloc, image, &func, overlap) {
         Ok(runs) => Ok(Items::from_vec(runs)),
         Err(e) => Err(e),
     }

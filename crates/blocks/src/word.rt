@@ -42,7 +42,7 @@ pub fn falls(i: &Instr) -> bool
 }
 
 /// Adds a word at the end.
-pub fn push_word(words: &mut Vec<Word>, w: &Word) -> Result<(), NoMemory>
+pub(crate) fn push_word(words: &mut Vec<Word>, w: &Word) -> Result<(), NoMemory>
     ensures { OnOk result (words.new.items ≡ words.old.items ++ w.now ∷ []) }
 {
     let instr: Instr = w.instr;

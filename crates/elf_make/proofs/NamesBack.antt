@@ -8,7 +8,7 @@ use Rattle.std.proofs.lemmas.Grind.{flat_map-append}
 use Rattle.std.proofs.lemmas.List.{append-nil, map-append, map-id}
 use Rattle.std.proofs.lemmas.List.Sums.{sum_by-cons}
 use Rattle.elf_read.specs.declared.tables.SymbolEntry.{SymbolEntry}
-use Rattle.elf_read.specs.Parts.{name_at, symbol}
+use Rattle.elf_read.specs.Names.{name_at, symbol}
 use Rattle.elf_read.specs.Tables as read
 use Rattle.rv_asm.specs.Kept.{IsSound, symbol_size, has_no_zero}
 use Rattle.rv_asm.specs.declared.program.Program.{Program}

@@ -12,6 +12,7 @@ use Rattle.elf_read.specs.Fields.{range_of}
 use Rattle.elf_read.specs.Tables as read
 use Rattle.elf_read.specs.Faults.{is_loaded, section_headers}
 use Rattle.elf_read.specs.Parts as back
+use Rattle.elf_read.specs.Relocs.{relocs_of}
 use Rattle.elf_read.specs.Parts.{parts_of}
 use Rattle.rv_asm.specs.declared.program.Program.{Program}
 use Rattle.rv_asm.specs.declared.symbol.Fixup.{Fixup}
@@ -103,18 +104,18 @@ each_below : (n : ℕ) (fs : List Fixup) → Each (Aims n) fs → Each (λ (r : 
 each_below n [] each = record {}
 each_below n (f ∷ fs) each = (less (f.func + 1) n each.0.below, each_below n fs each.1)
 
-relocs_back : (p : Program) (n at : ℕ) (fs : List Fixup) (s : SectionHeader) → Each (Aims n) fs → Holds (elf_of p) at (flat_map relocation fs) → s.offset ≡ at → s.size ≡ length (flat_map relocation fs) → back.relocs_of (elf_of p) n s ≡ map reloc_of fs
-unfolding back.relocs_of
+relocs_back : (p : Program) (n at : ℕ) (fs : List Fixup) (s : SectionHeader) → Each (Aims n) fs → Holds (elf_of p) at (flat_map relocation fs) → s.offset ≡ at → s.size ≡ length (flat_map relocation fs) → relocs_of (elf_of p) n s ≡ map reloc_of fs
+unfolding relocs_of
 relocs_back p n at fs s each held place size =
     let count = times_24 (length fs) (length (flat_map relocation fs)) (length-flat relocation 24 length-relocation fs) in
     rw (place, size, count, read_table 24 read.reloc relocation reloc_of FitsFixup (elf_of p) (read_reloc (elf_of p)) length-relocation at fs (each_fits n fs each) held)
     (all_pass (λ r. nat_lt r.symbol n) (map reloc_of fs) (each_below n fs each))
 
-text_relocs_back : (p : Program) (n : ℕ) → Fits p → length p.funcs < n → back.relocs_of (elf_of p) n (text_relocs_row (has_data p) (spots p)) ≡ map reloc_of (in_text p.fixups)
+text_relocs_back : (p : Program) (n : ℕ) → Fits p → length p.funcs < n → relocs_of (elf_of p) n (text_relocs_row (has_data p) (spots p)) ≡ map reloc_of (in_text p.fixups)
 unfolding text_relocations
 text_relocs_back p n fits h = relocs_back p n (text_relocations_at p) (in_text p.fixups) (text_relocs_row (has_data p) (spots p)) (each_filter (Aims n) (is_of false) p.fixups (aims p n fits h)) (stands p).text_relocs refl refl
 
-data_relocs_back : (p : Program) (n : ℕ) → Fits p → length p.funcs < n → back.relocs_of (elf_of p) n (data_relocs_row (has_data p) (spots p)) ≡ map reloc_of (in_data p.fixups)
+data_relocs_back : (p : Program) (n : ℕ) → Fits p → length p.funcs < n → relocs_of (elf_of p) n (data_relocs_row (has_data p) (spots p)) ≡ map reloc_of (in_data p.fixups)
 unfolding data_relocations
 data_relocs_back p n fits h = relocs_back p n (data_relocations_at p) (in_data p.fixups) (data_relocs_row (has_data p) (spots p)) (each_filter (Aims n) (is_of true) p.fixups (aims p n fits h)) (stands p).data_relocs refl refl
 

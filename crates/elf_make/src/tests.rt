@@ -248,7 +248,11 @@ fn a_program_is_read_back(rt: HostRuntime) {
     let Ok(elf) = read_back(rt.alloc(), &program) else {
         panic!(&rt; "out of memory");
     };
-    assert_eq!(&rt; elf.segments.len(), 2);
-    assert_eq!(&rt; elf.symbols.len(), 4);
-    assert_eq!(&rt; elf.relocs.len(), 1);
+    let parts = elf.parts();
+    assert_eq!(&rt; parts.segments.len(), 2);
+    assert_eq!(&rt; parts.symbols.len(), 4);
+    let Ok(relocs) = parts.relocs.distinct(rt.alloc()) else {
+        panic!(&rt; "out of memory");
+    };
+    assert_eq!(&rt; relocs.len(), 1);
 }

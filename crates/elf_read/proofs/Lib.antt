@@ -1,3 +1,5 @@
 pub mod BadLemmas
 pub mod Loops
+pub mod NameLemmas
+pub mod RelocLemmas
 pub mod Wholes

@@ -1,8 +1,10 @@
 -- Steps of the loops over the file's tables.
 use Rattle.std.proofs.Common.{◌≡◌, ℕ, ◌+◌, ◌*◌, ◌<◌, Bool, true, false, List, [], ◌∷◌, ◌++◌, length, get_or, Some, None, refl, arith}
-use Rattle.std.specs.List.{find, position}
-use Rattle.std.specs.Prelude.{◌&&◌, ◌||◌}
+use Rattle.std.specs.List.{All, filter, find, position}
+use Rattle.std.specs.Prelude.{◌&&◌, ◌||◌, ◌==◌}
 use Rattle.std.proofs.lemmas.List.Quantifiers.{position-Some}
+use Rattle.std.proofs.lemmas.Bool.{and_parts}
+use Rattle.std.proofs.lemmas.List.Elements.{All-filter, filter_passes}
 use Rattle.std.proofs.lemmas.List.FromFn.{map-range_with_len_more}
 use Rattle.finite.proofs.Finding.{find_none, none_by_map}
 use Rattle.elf_read.specs.declared.tables.ProgramHeader.{ProgramHeader}
@@ -43,3 +45,17 @@ pub symbols_inside : (len : ℕ) (ss : List SectionHeader) (i : ℕ) (d : Sectio
 symbols_inside len ss i d none first =
     let at = position-Some is_symbols ss i d first in
     section_inside len ss i d none at.0 (first_of_three (is_symbols (get_or ss i d)) _ at.1)
+
+last_of_three : (a b c : Bool) → c ≡ true → (a || (b || c)) ≡ true
+last_of_three true b c e = refl
+last_of_three false true c e = refl
+last_of_three false false c e = e
+
+-- the sections of relocations are inside
+pub tables_inside : (len : ℕ) (ss : List SectionHeader) (place : ℕ) → first_outside_section len ss ≡ None → All (λ (s : SectionHeader). is_outside len s.offset s.size ≡ false) (filter (λ s. s.kind == 4 && s.link == place) ss)
+tables_inside len ss place none i d lt =
+    let q : SectionHeader → Bool = λ s. s.kind == 4 && s.link == place in
+    let here : SectionHeader → Type 0 = λ s. is_table s ≡ true → is_outside len s.offset s.size ≡ false in
+    let each : All here ss = λ k e within. section_inside len ss k e none within in
+    let s = get_or (filter q ss) i d in
+    All-filter q here ss each i d lt (last_of_three (s.kind == 2) (s.kind == 3) (s.kind == 4) (and_parts (s.kind == 4) (s.link == place) (filter_passes q ss i d lt)).0)

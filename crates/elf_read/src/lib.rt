@@ -10,5 +10,6 @@ pub mod header;
 pub mod parts;
 pub mod read;
 pub mod reading;
+pub mod relocs;
 pub mod tables;
 pub mod whole;

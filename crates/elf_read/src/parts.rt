@@ -1,15 +1,15 @@
 //! The parts, read one by one.
 
-ghost use Rattle.std.specs.Prelude.{◌≡◌, ◌/◌, ◌++◌, ◌==◌, ◌<◌, length, map, position, Some, None, IfSome, IfOk, OnOk, false};
-ghost use Rattle.std.specs.List.{before_first};
+ghost use Rattle.std.specs.Prelude.{◌≡◌, ◌/◌, ◌++◌, ◌==◌, ◌&&◌, ◌<◌, length, map, filter, position, Some, None, IfSome, IfOk, OnOk, false};
 ghost use Rattle.elf_read.specs.Tables.{table};
 ghost use Rattle.elf_read.specs.Faults.{is_outside, is_loaded, first_outside_segment, first_outside_section, is_table, is_symbols};
-ghost use Rattle.elf_read.specs.Parts.{segment, segments, section, strings, name_at, symbol, symbols, relocs_of, relocs};
+ghost use Rattle.elf_read.specs.Parts.{segment, segments, section, strings, symbols, relocs};
 
 use crate::checks::is_loaded;
-use crate::elf::{Section, Segment, Symbol};
+use crate::elf::{Section, Segment, Symbols};
 use crate::fields::range_of;
-use crate::tables::{Entry, ProgramHeader, Reloc, SectionHeader, SymbolEntry, read_table};
+use crate::relocs::Relocs;
+use crate::tables::{Entry, ProgramHeader, SectionHeader, SymbolEntry, read_table};
 use oc_base::fault::NoMemory;
 use oc_base::items::Items;
 use std::alloc::Global;
@@ -44,46 +44,6 @@ pub fn sections(alloc: Global, headers: &[SectionHeader]) -> Result<Items<Sectio
     Ok(Items::from_vec(all))
 }
 
-fn first_zero(texts: &[u8]) -> Option<usize>
-    ensures first { result ≡ position (λ b. b == 0) texts.now }
-    ensures within { IfSome result (λ i. i < length texts.now) }
-{
-    texts.iter().position(|b| *b == 0)
-}
-
-/// What stands before the first zero byte.
-#[tactic(auto, using(finite::proofs::Finding::before_found, finite::proofs::Finding::before_none))]
-fn before_zero(texts: &[u8]) -> &[u8]
-    ensures { result.now ≡ before_first (λ b. b == 0) texts.now }
-{
-    match first_zero(texts) {
-        Some(end) => &texts[..end],
-        None => texts,
-    }
-}
-
-/// The bytes from an offset of the strings up to the next zero byte.
-#[tactic(auto, unfolding(crate::specs::Parts::name_at))]
-fn name_at(alloc: Global, texts: &[u8], at: u32) -> Result<Items<u8>, NoMemory>
-    ensures { IfOk result (λ name. name ≡ name_at texts.now at) }
-{
-    let at = (at as usize).min(texts.len());
-    Items::from_slice(alloc, before_zero(&texts[at..]))
-}
-
-#[tactic(auto, unfolding(crate::specs::Parts::symbol))]
-fn symbol(alloc: Global, texts: &[u8], e: &SymbolEntry) -> Result<Symbol, NoMemory>
-    ensures { IfOk result (λ s. s ≡ symbol texts.now e.now) }
-{
-    Ok(Symbol {
-        name: name_at(alloc, texts, e.name)?,
-        info: e.info,
-        section: e.section,
-        value: e.value,
-        size: e.size,
-    })
-}
-
 /// The loaded segments, with their bytes.
 #[tactic(auto, unfolding(crate::specs::Parts::segments), using(finite::proofs::Filtered::map_filter_more, crate::proofs::Loops::segment_inside))]
 pub fn segments(
@@ -103,16 +63,6 @@ pub fn segments(
     Ok(Items::from_vec(all))
 }
 
-fn named(alloc: Global, texts: &[u8], entries: &[SymbolEntry]) -> Result<Items<Symbol>, NoMemory>
-    ensures { IfOk result (λ v. v ≡ map (symbol texts.now) entries.now) }
-{
-    let mut all = Vec::new(alloc);
-    for e in entries {
-        all.push(symbol(alloc, texts, e)?)?;
-    }
-    Ok(Items::from_vec(all))
-}
-
 /// The entries of a table that one section holds.
 #[tactic(auto, using(crate::proofs::Loops::table_none))]
 fn entries_of<E: Entry>(alloc: Global, bytes: &[u8], s: &SectionHeader) -> Result<Vec<E>, NoMemory>
@@ -127,47 +77,37 @@ fn entries_of<E: Entry>(alloc: Global, bytes: &[u8], s: &SectionHeader) -> Resul
     read_table(alloc, bytes, s.offset as usize, count)
 }
 
-/// Adds the relocations of one section.
-#[tactic(auto, unfolding(crate::specs::Parts::relocs_of))]
-fn push_relocs(
+fn reloc_sections(
     alloc: Global,
-    out: &mut Vec<Reloc>,
-    bytes: &[u8],
-    s: &SectionHeader,
-    n: u64,
-) -> Result<(), NoMemory>
-    requires { is_outside (length bytes.now) s.now.offset s.now.size ≡ false }
-    ensures { OnOk result (out.new.items ≡ out.old.items ++ relocs_of bytes.now n s.now) }
+    sections: &[SectionHeader],
+    place: usize,
+) -> Result<Vec<SectionHeader>, NoMemory>
+    ensures { IfOk result (λ v. v.items ≡ filter (λ s. s.kind == 4 && s.link == place) sections.now) }
 {
-    let entries: Vec<Reloc> = entries_of(alloc, bytes, s)?;
-    let entries = entries.as_slice();
-    for r in entries {
-        if (r.symbol as u64) < n {
-            out.push(*r)?;
+    let mut all = Vec::new(alloc);
+    for s in sections {
+        if s.kind == 4 && s.link as usize == place {
+            all.push(*s)?;
         }
     }
-    Ok(())
+    Ok(all)
 }
 
 /// The relocations of the sections that name the symbol table.
-#[tactic(auto, unfolding(crate::specs::Parts::relocs), using(finite::proofs::Filtered::flat_map_filter_more, crate::proofs::Loops::section_inside))]
+#[tactic(auto, unfolding(crate::specs::Parts::relocs))]
 pub fn relocs(
     alloc: Global,
     bytes: &[u8],
     sections: &[SectionHeader],
     place: usize,
     n: u64,
-) -> Result<Items<Reloc>, NoMemory>
+) -> Result<Relocs, NoMemory>
     requires { first_outside_section (length bytes.now) sections.now ≡ None }
     ensures { IfOk result (λ v. v ≡ relocs bytes.now sections.now place n) }
 {
-    let mut all = Vec::new(alloc);
-    for s in sections {
-        if s.kind == 4 && s.link as usize == place {
-            push_relocs(alloc, &mut all, bytes, s, n)?;
-        }
-    }
-    Ok(Items::from_vec(all))
+    let tables = reloc_sections(alloc, sections, place)?;
+    let bytes = Items::from_slice(alloc, bytes)?;
+    Ok(Relocs::of(bytes, tables, n))
 }
 
 /// The strings that a section names.
@@ -191,13 +131,13 @@ pub fn symbols(
     bytes: &[u8],
     sections: &[SectionHeader],
     place: usize,
-) -> Result<Items<Symbol>, NoMemory>
+) -> Result<Symbols, NoMemory>
     requires sections { first_outside_section (length bytes.now) sections.now ≡ None }
     requires place { position is_symbols sections.now ≡ Some place }
     ensures { IfOk result (λ v. v ≡ symbols bytes.now sections.now) }
 {
     let s = sections[place];
-    let texts = strings(bytes, sections, s.link);
+    let strings = Items::from_slice(alloc, strings(bytes, sections, s.link))?;
     let entries: Vec<SymbolEntry> = entries_of(alloc, bytes, &s)?;
-    named(alloc, texts, &entries)
+    Ok(Symbols::of(strings, entries))
 }

@@ -2,6 +2,7 @@
 #![tactic(auto)]
 
 mod calls;
+pub mod draft;
 pub mod emit;
 pub mod entry;
 pub mod fault;

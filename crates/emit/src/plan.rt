@@ -14,7 +14,7 @@ use crate::fault::EmitFault;
 use crate::starts::measure;
 use crate::unplaced::{Moving, push_runs};
 use blocks::fault::Unreadable;
-use blocks::recover::runs;
+use blocks::index::FuncIndex;
 use blocks::run::Run;
 use image::picture::Image;
 use image::ranges::Func;
@@ -24,13 +24,13 @@ use plans::plan::Moved;
 use std::alloc::Global;
 
 /// The blocks of a function that moves, or its fault.
-fn runs_of(alloc: Global, image: &Image, func: u32) -> Result<Items<Run>, EmitFault>
-    requires { func < length image.now.funcs }
-    ensures is { IfOk result (λ rs. rs ≡ runs_of image.now func) }
-    ensures none { OnOk result (fault_of image.now func ≡ None) }
-    ensures fault { IfErr result (IsFault image.now func) }
+fn runs_of(alloc: Global, index: &FuncIndex, func: u32) -> Result<Items<Run>, EmitFault>
+    requires { func < length index.now.image.now.funcs }
+    ensures is { IfOk result (λ rs. rs ≡ runs_of index.now.image.now func) }
+    ensures none { OnOk result (fault_of index.now.image.now func ≡ None) }
+    ensures fault { IfErr result (IsFault index.now.image.now func) }
 {
-    match runs(alloc, image, func) {
+    match index.runs(alloc, func) {
         Ok(runs) => Ok(runs),
         Err(Unreadable::NoMemory) => Err(EmitFault::NoMemory),
         Err(why) => Err(EmitFault::Unreadable { func, why }),
@@ -91,15 +91,17 @@ fn push_part(
     alloc: Global,
     out: &mut Vec<Entry>,
     table: &CallTable,
+    index: &FuncIndex,
     part: &Moved,
 ) -> Result<(), EmitFault>
+    requires same { index.now.image.now ≡ table.now.image.now }
     requires there { part.now.func < length table.now.image.now.funcs }
     requires order { IsOrder (block_count table.now.image.now part.now) part.now.order }
     ensures is { OnOk result (out.new.items ≡ out.old.items ++ part_entries table.now.image.now (calls_of table.now.image.now table.now.parts.now) part.now) }
     ensures none { OnOk result (fault_of table.now.image.now part.now.func ≡ None) }
     ensures fault { IfErr result (IsFault table.now.image.now part.now.func) }
 {
-    let runs = match runs_of(alloc, table.image, part.func) {
+    let runs = match runs_of(alloc, index, part.func) {
         Ok(runs) => runs,
         Err(e) => return Err(e),
     };
@@ -120,9 +122,12 @@ pub fn entries_of(alloc: Global, image: &Image, parts: &[Moved]) -> Result<Vec<E
     let Ok(table) = CallTable::new(alloc, image, parts) else {
         return Err(EmitFault::NoMemory);
     };
+    let Ok(index) = FuncIndex::new(alloc, image) else {
+        return Err(EmitFault::NoMemory);
+    };
     let mut out = Vec::new(alloc);
     for i in 0..parts.len() {
-        match push_part(alloc, &mut out, &table, &parts[i]) {
+        match push_part(alloc, &mut out, &table, &index, &parts[i]) {
             Ok(()) => {}
             Err(e) => return Err(e),
         }

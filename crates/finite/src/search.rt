@@ -56,6 +56,7 @@ pub trait Spanned: Keyed {
 }
 
 /// The place of the element that covers a number, by a binary search.
+// rare after `place_near`, so kept out of the loops that call that
 #[inline(never)]
 pub fn place_covering<T: Spanned>(items: &[T], at: u64) -> Option<usize>
     requires ordered { All (λ x. T.key x ≤ T.end x) items.now }
@@ -75,7 +76,7 @@ pub fn place_covering<T: Spanned>(items: &[T], at: u64) -> Option<usize>
     Some(i)
 }
 
-/// The same, where one place is tried before the search.
+/// The same, where the place `near` is tried before the search. It may be any number.
 #[inline(always)]
 pub fn place_near<T: Spanned>(items: &[T], near: usize, at: u64) -> Option<usize>
     requires ordered { All (λ x. T.key x ≤ T.end x) items.now }

@@ -1,6 +1,6 @@
 //! Ranges that lie apart, and whether another meets one of them.
 
-ghost use Rattle.std.specs.Prelude.{◌≡◌, ℕ, ◌≤◌, ◌||◌, Bool, false, List, [], OnOk};
+ghost use Rattle.std.specs.Prelude.{◌≡◌, ℕ, ◌≤◌, ◌||◌, Bool, false, List, [], OnOk, OnErr};
 ghost use Rattle.std.specs.List.{list_any};
 ghost use Rattle.finite.specs.Spans.{meets, IsApart};
 
@@ -47,7 +47,8 @@ impl Spans {
     pub fn insert(&mut self, first: u64, last: u64) -> Result<(), AllocError>
         requires filled { first ≤ last }
         requires apart { list_any (meets first last) self.old ≡ false }
-        ensures { OnOk result ((test : ℕ × ℕ → Bool) → list_any test self.new ≡ (test (last, first) || list_any test self.old)) }
+        ensures added { OnOk result ((test : ℕ × ℕ → Bool) → list_any test self.new ≡ (test (last, first) || list_any test self.old)) }
+        ensures err { OnErr result (self.new ≡ self.old) }
     {
         let Ok(_) = self.firsts.insert(last, first) else {
             return Err(AllocError);

@@ -1,5 +1,5 @@
-//! Tests of guests written as text: assembled by `guest_gen` and run by `play`.
+//! Tests of guests as text: assembled by `guest_gen`, and run by `play`.
 #![tactic(auto)]
 
 #[cfg(test)]
-mod tests;
+mod run_tests;

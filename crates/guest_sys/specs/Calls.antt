@@ -16,7 +16,7 @@ use Rattle.guest_sys.specs.declared.effect.Effect.{Effect}
 use Rattle.guest_sys.specs.declared.service.Service.{Service}
 use Rattle.guest_sys.specs.declared.service.Service.TheVariants as call
 use Rattle.guest_sys.specs.declared.service.Operation.TheVariants as futex
-use Rattle.guest_sys.specs.declared.TheConstants.{MAP_END, OUTPUT_LIMIT, HART_LIMIT}
+use Rattle.guest_sys.specs.Limits.{map_end, output_limit, hart_limit}
 use Rattle.guest_sys.specs.Services.{service_of, operation_of, number, link_read}
 use Rattle.guest_sys.specs.State.{State, pages}
 use Rattle.guest_sys.specs.Waiting.{first_at, others, harts, requeued}
@@ -102,7 +102,7 @@ break_changes before after =
 
 -- the bytes from a place up to another lie among those of mappings
 abbrev pub is_mapping : State → ℕ → ℕ → Bool
-is_mapping s from to = nat_le s.map_top from && nat_le to MAP_END
+is_mapping s from to = nat_le s.map_top from && nat_le to map_end
 
 -- CLONE_VM (0x100) and CLONE_THREAD (0x10000) are asked for, and no bit that isn't served
 abbrev pub is_thread : ℕ → Bool
@@ -137,7 +137,7 @@ read writable s fd at count =
 
 abbrev pub written : State → ℕ → List ℕ → Done
 written s fd bytes =
-    if nat_lt OUTPUT_LIMIT (length (output s fd) + length bytes) then replies s reply.OutputFull
+    if nat_lt output_limit (length (output s fd) + length bytes) then replies s reply.OutputFull
     else done (reply.Answer (length bytes)) [] (added s fd bytes)
 
 unfoldable pub write_parts : (ℕ → ℕ) → Places → State → ℕ → List (ℕ × ℕ) → Done
@@ -232,7 +232,7 @@ unfoldable pub clone : Places → State → (flags stack parent tls child : ℕ)
 clone writable s flags stack parent tls child =
     if not (is_thread flags) || stack == 0 then fails s 22
     else (if not (list_all (is_word writable) (tid_words flags parent child)) then fails s 14
-    else (if s.made == HART_LIMIT then replies s reply.HartsFull
+    else (if s.made == hart_limit then replies s reply.HartsFull
     else cloned s flags stack tls child (tid_words flags parent child)))
 
 -- ---- the call of hart h, whose clear address is this, by its arguments

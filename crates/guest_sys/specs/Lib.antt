@@ -1,5 +1,6 @@
 pub mod Services
 pub mod Errors
+pub mod Limits
 pub mod State
 pub mod Waiting
 pub mod Fitting

@@ -1,7 +1,7 @@
 -- What the system keeps of a run, and what is always true of it.
 use Rattle.std.specs.Prelude.{◌≡◌, ℕ, ◌+◌, ◌*◌, ◌/◌, ◌%◌, ◌≤◌, List, [], length}
 use Rattle.guest_sys.specs.declared.state.Waiter.{Waiter}
-use Rattle.guest_sys.specs.declared.TheConstants.{MAP_END, OUTPUT_LIMIT, HART_LIMIT}
+use Rattle.guest_sys.specs.Limits.{map_end, output_limit, hart_limit}
 
 pub record State : Type 0 where
   -- what is left of the input
@@ -28,11 +28,11 @@ pub record IsOrderly (s : State) : Type 0 where
   pub top_whole : s.map_top % 4096 ≡ 0
   pub past_start : s.break_start ≤ s.break_now
   pub below_top : pages s.break_now ≤ s.map_top
-  pub below_end : s.map_top ≤ MAP_END
-  pub out_short : length s.out ≤ OUTPUT_LIMIT
-  pub err_short : length s.err ≤ OUTPUT_LIMIT
+  pub below_end : s.map_top ≤ map_end
+  pub out_short : length s.out ≤ output_limit
+  pub err_short : length s.err ≤ output_limit
   pub some_made : 1 ≤ s.made
-  pub few_made : s.made ≤ HART_LIMIT
+  pub few_made : s.made ≤ hart_limit
 
 -- before the first call, with this input and break
 abbrev pub fresh : List ℕ → ℕ → State
@@ -42,7 +42,7 @@ fresh input break_start = record {
   err = [];
   break_start = break_start;
   break_now = break_start;
-  map_top = MAP_END;
+  map_top = map_end;
   made = 1;
   waiting = [];
 }

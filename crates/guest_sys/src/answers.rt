@@ -39,7 +39,7 @@ impl Error {
 }
 
 /// A reply alone.
-pub fn plain(alloc: Global, reply: Reply) -> Effect
+pub(crate) fn plain(alloc: Global, reply: Reply) -> Effect
     ensures { result ≡ record { reply = reply; woken = []; written = [] } }
 {
     Effect {
@@ -50,14 +50,14 @@ pub fn plain(alloc: Global, reply: Reply) -> Effect
 }
 
 /// A number as the answer.
-pub fn answer(alloc: Global, number: u64) -> Effect
+pub(crate) fn answer(alloc: Global, number: u64) -> Effect
     ensures { result ≡ record { reply = Reply.Answer number; woken = []; written = [] } }
 {
     plain(alloc, Reply::Answer(number))
 }
 
 /// An error as the answer.
-pub fn failure(alloc: Global, error: Error) -> Effect
+pub(crate) fn failure(alloc: Global, error: Error) -> Effect
     ensures { result ≡ record { reply = Reply.Answer (2 ^ 64 - errno error); woken = []; written = [] } }
 {
     answer(alloc, u64::MAX - (error.number() - 1))

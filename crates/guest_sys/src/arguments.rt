@@ -16,7 +16,7 @@ pub struct Arguments {
 
 impl Arguments {
     /// Those of the values of `x10` to `x17`.
-    pub fn of(regs: &[Value; 8]) -> Arguments
+    pub(crate) fn of(regs: &[Value; 8]) -> Arguments
         ensures { result ≡ record { a0 = number regs.now 10; a1 = number regs.now 11; a2 = number regs.now 12; a3 = number regs.now 13; a4 = number regs.now 14 } }
     {
         Arguments {

@@ -19,7 +19,7 @@ use std::alloc::Global;
 
 /// Moves bytes of the input into memory.
 #[tactic(auto, unfolding(crate::specs::Calls::read), using(crate::proofs::FileLaws::taken_length))]
-pub fn read<M: GuestStore, O: Origins>(
+pub(crate) fn read<M: GuestStore, O: Origins>(
     alloc: Global,
     sys: &mut Sys,
     mem: &mut M,
@@ -49,7 +49,7 @@ pub fn read<M: GuestStore, O: Origins>(
 
 /// Writes bytes of memory to an output.
 #[tactic(auto, unfolding(crate::specs::Calls::write))]
-pub fn write<M: GuestStore, O: Origins>(
+pub(crate) fn write<M: GuestStore, O: Origins>(
     alloc: Global,
     sys: &mut Sys,
     mem: &M,
@@ -68,7 +68,7 @@ pub fn write<M: GuestStore, O: Origins>(
 
 /// Writes parts of memory, of which memory tells, to an output.
 #[tactic(auto, unfolding(crate::specs::Calls::writev))]
-pub fn writev<M: GuestStore, O: Origins>(
+pub(crate) fn writev<M: GuestStore, O: Origins>(
     alloc: Global,
     sys: &mut Sys,
     mem: &M,

@@ -1,5 +1,6 @@
 //! Calls that move the break, map bytes and change their rights. All ranges are of whole pages.
 ghost use Rattle.std.specs.Prelude.{◌≡◌, ℕ, ◌+◌, ◌≤◌, Some, None, if◌then◌else◌};
+ghost use Rattle.guest_sys.specs.Limits.{map_end};
 ghost use Rattle.guest_sys.specs.State.{pages};
 ghost use Rattle.guest_sys.specs.Calls.{Does, brk, munmap, mmap, mprotect, is_mapping};
 
@@ -15,7 +16,7 @@ use std::alloc::Global;
 
 /// A number rounded up to whole pages.
 fn pages(n: u64) -> u64
-    requires { n ≤ MAP_END }
+    requires { n ≤ map_end }
     ensures { result ≡ pages n }
 {
     4096 * ((n + 4095) / 4096)
@@ -38,7 +39,7 @@ fn mapping(sys: &Sys, at: u64, len: u64) -> Option<Range>
 
 /// Moves the break.
 #[tactic(auto, unfolding(crate::specs::Calls::brk), using(crate::proofs::PageLaws::holds_whole_links))]
-pub fn brk<M: GuestStore>(
+pub(crate) fn brk<M: GuestStore>(
     alloc: Global,
     sys: &mut Sys,
     mem: &mut M,
@@ -71,7 +72,7 @@ pub fn brk<M: GuestStore>(
 
 /// Gives pages of mappings up.
 #[tactic(auto, unfolding(crate::specs::Calls::munmap), using(crate::proofs::PageLaws::holds_whole_links))]
-pub fn munmap<M: GuestStore>(
+pub(crate) fn munmap<M: GuestStore>(
     alloc: Global,
     sys: &mut Sys,
     mem: &mut M,
@@ -96,7 +97,7 @@ pub fn munmap<M: GuestStore>(
 
 /// Maps pages below all mappings.
 #[tactic(auto, unfolding(crate::specs::Calls::mmap), using(crate::proofs::PageLaws::holds_whole_links))]
-pub fn mmap<M: GuestStore>(
+pub(crate) fn mmap<M: GuestStore>(
     alloc: Global,
     sys: &mut Sys,
     mem: &mut M,
@@ -128,7 +129,7 @@ pub fn mmap<M: GuestStore>(
 
 /// Gives pages of mappings other rights.
 #[tactic(auto, unfolding(crate::specs::Calls::mprotect))]
-pub fn mprotect<M: GuestStore>(
+pub(crate) fn mprotect<M: GuestStore>(
     alloc: Global,
     sys: &Sys,
     mem: &mut M,

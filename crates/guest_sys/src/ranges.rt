@@ -13,7 +13,7 @@ use std::alloc::Global;
 
 /// Whether the `len` bytes at `at` may be read, which then fit.
 #[tactic(auto, using(crate::proofs::RangeLaws::end_fits))]
-pub fn readable<M: GuestStore>(mem: &M, at: u64, len: u64) -> bool
+pub(crate) fn readable<M: GuestStore>(mem: &M, at: u64, len: u64) -> bool
     ensures value { result ≡ contains_all (M.contents mem.now).readable at len }
     ensures fits { result ≡ true → at + len < 2 ^ 64 }
 {
@@ -22,7 +22,7 @@ pub fn readable<M: GuestStore>(mem: &M, at: u64, len: u64) -> bool
 
 /// Whether the `len` bytes at `at` may be written, which then fit.
 #[tactic(auto, using(crate::proofs::RangeLaws::end_fits))]
-pub fn writable<M: GuestStore>(mem: &M, at: u64, len: u64) -> bool
+pub(crate) fn writable<M: GuestStore>(mem: &M, at: u64, len: u64) -> bool
     ensures value { result ≡ contains_all (M.contents mem.now).writable at len }
     ensures fits { result ≡ true → at + len < 2 ^ 64 }
 {
@@ -30,7 +30,7 @@ pub fn writable<M: GuestStore>(mem: &M, at: u64, len: u64) -> bool
 }
 
 /// The range of `len` bytes at `at`, which fits, where there are some.
-pub fn span(alloc: Global, at: u64, len: u64) -> Result<Items<Range>, NoMemory>
+pub(crate) fn span(alloc: Global, at: u64, len: u64) -> Result<Items<Range>, NoMemory>
     requires { at + len < 2 ^ 64 }
     ensures { IfOk result (λ list. list ≡ span at len) }
 {
@@ -45,7 +45,7 @@ pub fn span(alloc: Global, at: u64, len: u64) -> Result<Items<Range>, NoMemory>
 }
 
 /// Puts bytes where they may be written.
-pub fn put<M: GuestStore, O: Origins>(
+pub(crate) fn put<M: GuestStore, O: Origins>(
     mem: &mut M,
     origins: &O,
     at: u64,

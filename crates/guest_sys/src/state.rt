@@ -1,9 +1,10 @@
 //! What the system keeps of a run.
 ghost use Rattle.std.specs.Prelude.{◌≡◌, ◌+◌, ◌%◌, ◌≤◌, ◌<◌, ◌==◌, ◌++◌, ◌∷◌, [], length, drop, OnOk, OnErr, if◌then◌else◌};
+ghost use Rattle.guest_sys.specs.Limits.{map_end, output_limit, hart_limit};
 ghost use Rattle.guest_sys.specs.State.{State, IsOrderly, pages, fresh};
 ghost use Rattle.guest_sys.specs.Calls.{added, output};
 
-use crate::{HART_LIMIT, MAP_END, OUTPUT_LIMIT};
+use crate::MAP_END;
 use oc_base::fault::NoMemory;
 use oc_base::items::Items;
 use std::alloc::Global;
@@ -64,7 +65,7 @@ impl Sys {
     /// The state before the first call. It takes no memory.
     pub fn new(alloc: Global, input: Vec<u8>, break_start: u64) -> Sys
         requires whole { break_start % 4096 ≡ 0 }
-        requires low { break_start ≤ MAP_END }
+        requires low { break_start ≤ map_end }
         ensures { result ≡ fresh input.items break_start }
     {
         Sys {
@@ -152,7 +153,7 @@ impl Sys {
 
     /// Adds bytes to output 1 or 2.
     pub(crate) fn append(&mut self, k: u64, bytes: &[u8]) -> Result<(), NoMemory>
-        requires { length (output self.old k) + length bytes.now ≤ OUTPUT_LIMIT }
+        requires { length (output self.old k) + length bytes.now ≤ output_limit }
         ensures ok { OnOk result (self.new ≡ added self.old k bytes.now) }
         ensures err { OnErr result (self.new ≡ self.old) }
     {
@@ -176,7 +177,7 @@ impl Sys {
     pub(crate) fn set_map_top(&mut self, to: u64)
         requires whole { to % 4096 ≡ 0 }
         requires low { pages self.old.break_now ≤ to }
-        requires high { to ≤ MAP_END }
+        requires high { to ≤ map_end }
         ensures { self.new ≡ record self.old { map_top = to } }
     {
         self.map_top = to;
@@ -184,7 +185,7 @@ impl Sys {
 
     /// One more hart is made.
     pub(crate) fn count_hart(&mut self)
-        requires { self.old.made < HART_LIMIT }
+        requires { self.old.made < hart_limit }
         ensures { self.new ≡ record self.old { made = self.old.made + 1 } }
     {
         self.made += 1;

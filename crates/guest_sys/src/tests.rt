@@ -34,10 +34,12 @@ const ROM: u64 = 0x0010_1000;
 struct Guest {
     sys: Sys,
     mem: FlatMem,
+    // the clear address of each hart
+    clear: u64,
 }
 
 impl Guest {
-    /// A guest whose input is `hello`, with the break at 0x200000.
+    /// A guest whose input is `hello`, with the break at 0x200000 and the clear address `AT`.
     fn new(alloc: Global) -> Result<Guest, NoMemory> {
         let input = Vec::from_slice(alloc, b"hello")?;
         let mut mem = FlatMem::new(alloc);
@@ -51,10 +53,11 @@ impl Guest {
         Ok(Guest {
             sys: Sys::new(alloc, input, 0x0020_0000),
             mem,
+            clear: AT,
         })
     }
 
-    /// A call of a hart whose clear address is `AT`.
+    /// A call of a hart. Where it asks for another clear address, it gets it.
     fn call(&mut self, alloc: Global, words: &[&[u8]; 9]) -> Result<Effect, NoMemory> {
         let args = [
             Value::plain(number(words[2], 16)),
@@ -65,7 +68,19 @@ impl Guest {
         ];
         let regs = registers(Value::plain(number(words[1], 10)), args);
         let hart = (number(words[0], 10) % 64) as u32;
-        syscall(alloc, &mut self.sys, &mut self.mem, &Same, hart, AT, &regs)
+        let effect = syscall(
+            alloc,
+            &mut self.sys,
+            &mut self.mem,
+            &Same,
+            hart,
+            self.clear,
+            &regs,
+        )?;
+        if let Reply::SetClear { clear } = effect.reply {
+            self.clear = clear;
+        }
+        Ok(effect)
     }
 
     /// Whether the call of a line gets its reply.
@@ -133,7 +148,18 @@ fn shown_reply(alloc: Global, reply: Reply) -> Result<String, NoMemory> {
         Reply::Wait { addr } => format!(in alloc; "waits-{addr:x}")?,
         Reply::EndHart => format!(in alloc; "ends")?,
         Reply::EndAll(code) => format!(in alloc; "exits-{code}")?,
-        Reply::Clone { tid, .. } => format!(in alloc; "tid-{tid}")?,
+        Reply::Clone {
+            stack,
+            tls: None,
+            clear,
+            tid,
+        } => format!(in alloc; "tid-{tid},{stack:x},{clear:x}")?,
+        Reply::Clone {
+            stack,
+            tls: Some(at),
+            clear,
+            tid,
+        } => format!(in alloc; "tid-{tid},{stack:x},{clear:x},{at:x}")?,
         Reply::SetClear { clear } => format!(in alloc; "clears-{clear:x}")?,
         Reply::LinkUse { reg } => format!(in alloc; "link-{reg}")?,
         Reply::OutputFull => format!(in alloc; "full")?,
@@ -215,9 +241,20 @@ fn a_full_output_takes_nothing(rt: HostRuntime) -> Result<(), Fail> {
         to: 0x0201_0000,
     };
     guest.mem.set_rights(much, true, false)?;
-    let table = b"3 64 1 1000000 1000001 0 0 = full";
+    // One byte, and as many as an output takes.
+    let parts = [0x10_0000, 1, 0x0100_0000, 0x0100_0000];
+    let mut at = AT + 64;
+    for number in parts {
+        guest.mem.store(at, Width::D, Value::plain(number), &Same)?;
+        at = at.wrapping_add(8);
+    }
+    let table = b"3 64 1 1000000 1000001 0 0 = full
+3 66 1 100040 2 0 0 = full
+3 66 2 100040 2 0 0 = full
+";
     assert_eq!(rt; guest.first_wrong(rt.alloc(), table)?, 0);
     assert_eq!(rt; guest.sys.output(1).len(), 0);
+    assert_eq!(rt; guest.sys.output(2).len(), 0);
     Ok(())
 }
 
@@ -239,6 +276,11 @@ fn harts_wait_and_are_woken_in_their_order(rt: HostRuntime) -> Result<(), Fail> 
 3 98 100008 1 9 0 0 = 3+2+4+5
 3 93 0 0 0 0 0 = ends+6
 3 93 0 0 0 0 0 = ends
+1 98 100000 0 0 0 0 = waits-100000
+2 98 100000 0 0 0 0 = waits-100000
+4 98 100000 0 0 0 0 = waits-100000
+3 98 100000 3 1 1 100000 = 1+1
+3 98 100000 1 9 0 0 = 2+4+2
 ";
     assert_eq!(rt; guest.first_wrong(rt.alloc(), table)?, 0);
     Ok(())
@@ -257,6 +299,32 @@ fn a_hart_that_ends_clears_its_word(rt: HostRuntime) -> Result<(), Fail> {
 }
 
 #[test]
+fn a_clear_address_that_is_no_word_is_left_alone(rt: HostRuntime) -> Result<(), Fail> {
+    let mut guest = Guest::new(rt.alloc())?;
+    let low = Range { from: 0, to: 4096 };
+    guest.mem.set_rights(low, true, true)?;
+    // Harts wait at 0, at an address that is no multiple of 4, and where nothing may be written.
+    let table = b"3 63 0 0 2 0 0 = 2
+3 63 0 100000 3 0 0 = 3
+1 98 0 0 6568 0 0 = waits-0
+2 98 100008 0 0 0 0 = waits-100008
+3 98 100008 3 0 1 100001 = 0
+4 98 101000 0 0 0 0 = waits-101000
+3 96 0 0 0 0 0 = clears-0
+3 93 0 0 0 0 0 = ends
+3 96 100001 0 0 0 0 = clears-100001
+3 93 0 0 0 0 0 = ends
+3 96 101000 0 0 0 0 = clears-101000
+3 93 0 0 0 0 0 = ends
+3 64 1 0 2 0 0 = 2
+3 64 1 100000 3 0 0 = 3
+";
+    assert_eq!(rt; guest.first_wrong(rt.alloc(), table)?, 0);
+    assert_eq!(rt; guest.sys.output(1), b"hello".as_slice());
+    Ok(())
+}
+
+#[test]
 fn bytes_are_mapped_and_given_up(rt: HostRuntime) -> Result<(), Fail> {
     let mut guest = Guest::new(rt.alloc())?;
     let table = b"3 214 0 0 0 0 0 = 200000
@@ -267,6 +335,7 @@ fn bytes_are_mapped_and_given_up(rt: HostRuntime) -> Result<(), Fail> {
 3 214 200000 0 0 0 0 = 200000
 3 64 1 200000 1 0 0 = -14
 3 222 0 0 3 22 0 = -22
+3 222 0 0 7 22 0 = -22
 3 222 0 1 3 2 0 = -22
 3 222 0 1 3 32 0 = -22
 3 222 0 1 7 22 0 = -13
@@ -306,14 +375,15 @@ fn a_clone_is_refused_in_an_order(rt: HostRuntime) -> Result<(), Fail> {
 3 220 110100 100000 100002 0 0 = -14
 3 220 110100 100000 101000 0 0 = -14
 3 220 1010100 100000 100000 0 100001 = -14
-3 220 1110100 100000 100000 0 100008 = tid-2
-3 220 1010100 100000 101000 0 100004 = tid-3
+3 220 1110100 100000 100000 0 100008 = tid-2,100000,0
+3 220 1010100 100000 101000 5 100004 = tid-3,100000,0
+3 220 7d0f00 100040 100000 4d 100008 = tid-4,100040,100008,4d
 3 64 1 100000 c 0 0 = c
 ";
     assert_eq!(rt; guest.first_wrong(rt.alloc(), table)?, 0);
     assert_eq!(rt;
         guest.sys.output(1),
-        [2, 0, 0, 0, 3, 0, 0, 0, 2, 0, 0, 0].as_slice()
+        [4, 0, 0, 0, 3, 0, 0, 0, 2, 0, 0, 0].as_slice()
     );
     Ok(())
 }
@@ -400,5 +470,16 @@ fn links_are_seen_by_their_original_numbers_and_refused_in_registers(
         &regs,
     )?;
     assert_eq!(rt; effect.reply, Reply::LinkUse { reg: 11 });
+    let regs = registers(Value::link(64), [link, link, link, one, one]);
+    let effect = syscall(
+        rt.alloc(),
+        &mut guest.sys,
+        &mut guest.mem,
+        &One,
+        0,
+        0,
+        &regs,
+    )?;
+    assert_eq!(rt; effect.reply, Reply::LinkUse { reg: 17 });
     Ok(())
 }

@@ -5,6 +5,7 @@ ghost use Rattle.finite.specs.Maps.{contains_all};
 ghost use Rattle.guest_mem.specs.Memory.{bytes_of};
 ghost use Rattle.guest_mem.specs.Access.{IsRoomy};
 ghost use Rattle.guest_sys.specs.Calls.{Does, Ends, has, asked_for, clone, cloned, is_thread, is_word, listed, puts, changed, all_changed, put_at};
+ghost use Rattle.guest_sys.specs.Limits.{hart_limit};
 ghost use Rattle.guest_sys.specs.Words.{word_range};
 
 use crate::HART_LIMIT;
@@ -23,7 +24,7 @@ use std::alloc::Global;
 
 /// Makes a hart: flags, stack, parent's word, thread pointer and child's word are asked for.
 #[tactic(auto, unfolding(crate::specs::Calls::clone), using(crate::proofs::ThreadLaws::all_both))]
-pub fn clone<M: GuestStore, O: Origins>(
+pub(crate) fn clone<M: GuestStore, O: Origins>(
     alloc: Global,
     sys: &mut Sys,
     mem: &mut M,
@@ -59,7 +60,7 @@ fn make_hart<M: GuestStore, O: Origins>(
     parent: Option<u64>,
     child: Option<u64>,
 ) -> Result<Effect, NoMemory>
-    requires few { sys.old.made < HART_LIMIT }
+    requires few { sys.old.made < hart_limit }
     requires parent { list_all (is_word (M.contents mem.old).writable) (listed parent) ≡ true }
     requires child { list_all (is_word (M.contents mem.old).writable) (listed child) ≡ true }
     ensures { Ends (O.origin origins.now) (cloned sys.old a.a0 a.a1 a.a3 a.a4 (listed parent ++ listed child)) sys.old sys.new (M.contents mem.old) (M.contents mem.new) result }

@@ -67,7 +67,7 @@ fn sent_to(alloc: Global, to: u64, waiting: &[Waiter]) -> Result<Vec<Waiter>, No
 
 /// A futex call of a hart.
 #[tactic(auto, unfolding(crate::specs::Calls::futex_call, crate::specs::Calls::wake, crate::specs::Calls::requeue), using(crate::proofs::CallLaws::rests_ends))]
-pub fn futex_call<M: GuestStore, O: Origins>(
+pub(crate) fn futex_call<M: GuestStore, O: Origins>(
     alloc: Global,
     sys: &mut Sys,
     mem: &M,
@@ -163,7 +163,7 @@ fn requeue(
 
 /// The hart ends: its clear word becomes zero, where it has one, and the first that waits there is woken.
 #[tactic(auto, unfolding(crate::specs::Calls::exit))]
-pub fn exit<M: GuestStore, O: Origins>(
+pub(crate) fn exit<M: GuestStore, O: Origins>(
     alloc: Global,
     sys: &mut Sys,
     mem: &mut M,

@@ -3,8 +3,7 @@
 -- fetches and in `origin`, which gives the original number of a link and the original address of an instruction.
 -- Source: the RISC-V Unprivileged ISA, RV64I, "M" and "A", for numbers, reservations and results; this project for tags,
 -- causes of traps, and the order: uses of registers, misalignment, access, then the word that an atomic instruction addresses.
-use Rattle.std.specs.Prelude.{◌≡◌, ◌≢◌, ℕ, ℤ, ◌==◌, int_lt, nat_lt, Bool, true, false, not, Option, Some, None, Result, Ok, Err, if◌then◌else◌}
-use Rattle.finite.specs.Maps.{Places}
+use Rattle.std.specs.Prelude.{◌≡◌, ℕ, ◌==◌, int_lt, nat_lt, Bool, true, false, not, Option, Some, None, Result, Ok, Err, if◌then◌else◌}
 use Rattle.rv_isa.specs.Word.{signed}
 use Rattle.rv_isa.specs.declared.instr.Cond.{Cond}
 use Rattle.rv_isa.specs.declared.instr.Cond.TheVariants.{Eq, Ne, Lt, Ge, Ltu, Geu}

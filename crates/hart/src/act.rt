@@ -1,7 +1,9 @@
 //! The effect of an instruction.
-ghost use Rattle.std.specs.Prelude.{◌≡◌, None, if◌then◌else◌};
+ghost use Rattle.std.specs.Prelude.{◌≡◌, ℕ, None, if◌then◌else◌};
 ghost use Rattle.rv_isa.specs.Instr.{HasWord, IsAmount, IsStoreWidth};
+ghost use Rattle.rv_isa.specs.declared.instr.Order.{Order};
 ghost use Rattle.guest_mem.specs.Access.{KeepsRoom};
+ghost use Rattle.guest_mem.specs.Memory.{Memory};
 ghost use Rattle.link_tags.specs.Values.{is_link};
 ghost use Rattle.hart.specs.Harts.{with_reg, after, moved_by};
 ghost use Rattle.hart.specs.Effects.{effect_of, Acts, is_taken, is_private};
@@ -15,7 +17,7 @@ use link_tags::origins::Origins;
 use link_tags::value::{Tag, Value};
 use rv_alu::{alu, alu_imm, shift, taken};
 use rv_isa::fields::{Imm12, OffB, Reg, Shift};
-use rv_isa::instr::{AluOp, AmoOp, Cond, ImmOp, Instr, Order, ShiftOp, Width};
+use rv_isa::instr::{AluOp, AmoOp, Cond, ImmOp, Instr, ShiftOp, Width};
 
 /// What an instruction did. After `Next` and `Stored` pc is at the next word; after every other answer the hart and memory
 /// are as before, and the machine goes on from there.
@@ -69,22 +71,22 @@ pub fn act<M: GuestStore, O: Origins>(hart: &mut Hart, mem: &mut M, origins: &O,
     ensures room { KeepsRoom (M.room mem.old) (M.room mem.new) }
 {
     match *i {
-        Instr::Alu { op, rd, rs1, rs2 } => operate(hart, mem, origins, op, rd, rs1, rs2),
-        Instr::AluImm { op, rd, rs1, imm } => operate_imm(hart, mem, origins, op, rd, rs1, imm),
-        Instr::ShiftImm { op, rd, rs1, by } => operate_shift(hart, mem, origins, op, rd, rs1, by),
+        Instr::Alu { op, rd, rs1, rs2 } => operate(hart, op, rd, rs1, rs2),
+        Instr::AluImm { op, rd, rs1, imm } => operate_imm(hart, op, rd, rs1, imm),
+        Instr::ShiftImm { op, rd, rs1, by } => operate_shift(hart, op, rd, rs1, by),
         Instr::Lui { rd, imm } => next(hart, rd, Value::plain(upper(imm))),
         Instr::Auipc { rd, imm } => {
             let value = hart.pc.wrapping_add(upper(imm));
             next(hart, rd, Value::plain(value))
         }
         Instr::Jal { rd, off } => jump(moved_by(hart.pc, off.get()), Tag::Link, Some(rd)),
-        Instr::Jalr { rd, rs1, off } => jump_register(hart, mem, origins, rd, rs1, off),
+        Instr::Jalr { rd, rs1, off } => jump_register(hart, rd, rs1, off),
         Instr::Branch {
             cond,
             rs1,
             rs2,
             off,
-        } => branch_on(hart, mem, origins, cond, rs1, rs2, off),
+        } => branch_on(hart, cond, rs1, rs2, off),
         Instr::Load {
             width,
             rd,
@@ -97,27 +99,22 @@ pub fn act<M: GuestStore, O: Origins>(hart: &mut Hart, mem: &mut M, origins: &O,
             rs1,
             off,
         } => store_at(hart, mem, origins, width, rs2, rs1, off),
-        Instr::Lr {
-            wide,
-            order,
-            rd,
-            rs1,
-        } => reserve(hart, mem, origins, wide, order, rd, rs1),
+        Instr::Lr { wide, rd, rs1, .. } => reserve(hart, mem, origins, wide, rd, rs1),
         Instr::Sc {
             wide,
-            order,
             rd,
             rs1,
             rs2,
-        } => conditional(hart, mem, origins, wide, order, rd, rs1, rs2),
+            ..
+        } => conditional(hart, mem, origins, wide, rd, rs1, rs2),
         Instr::Amo {
             op,
             wide,
-            order,
             rd,
             rs1,
             rs2,
-        } => atomically(hart, mem, origins, op, wide, order, rd, rs1, rs2),
+            ..
+        } => atomically(hart, mem, origins, op, wide, rd, rs1, rs2),
         Instr::Fence { .. } => {
             hart.advance();
             Acted::Next
@@ -143,24 +140,11 @@ fn is_link(v: Value) -> bool
 /// An operation between two registers.
 #[inline(always)]
 #[tactic(auto, unfolding(crate::specs::Effects::effect_of, crate::specs::Effects::effect_on, link_tags::specs::Forbidden::uses, crate::specs::Effects::hart_after, crate::specs::Effects::memory_after, crate::specs::Effects::answer_of))]
-fn operate<M: GuestStore, O: Origins>(
-    hart: &mut Hart,
-    mem: &M,
-    origins: &O,
-    op: AluOp,
-    rd: Reg,
-    rs1: Reg,
-    rs2: Reg,
-) -> Acted
-    ensures acts { Acts (O.origin origins.now) (effect_of (O.origin origins.now) (M.contents mem.now) hart.old (Instr.Alu op rd rs1 rs2)) hart.old hart.new (M.contents mem.now) (M.contents mem.now) result }
+fn operate(hart: &mut Hart, op: AluOp, rd: Reg, rs1: Reg, rs2: Reg) -> Acted
+    ensures { (origin : ℕ → ℕ) (m : Memory) → Acts origin (effect_of origin m hart.old (Instr.Alu op rd rs1 rs2)) hart.old hart.new m m result }
 {
-    let _ = mem;
-    let _ = origins;
     let (a, b) = (hart.reg(rs1), hart.reg(rs2));
-    if is_link(a) {
-        return Acted::LinkUse { rule: 1 };
-    }
-    if is_link(b) {
+    if is_link(a) || is_link(b) {
         return Acted::LinkUse { rule: 1 };
     }
     next(hart, rd, Value::plain(alu(op, a.number, b.number)))
@@ -169,19 +153,9 @@ fn operate<M: GuestStore, O: Origins>(
 /// An operation between a register and an immediate: a move keeps the tag.
 #[inline(always)]
 #[tactic(auto, unfolding(crate::specs::Effects::effect_of, crate::specs::Effects::effect_on, link_tags::specs::Forbidden::uses, crate::specs::Effects::hart_after, crate::specs::Effects::memory_after, crate::specs::Effects::answer_of))]
-fn operate_imm<M: GuestStore, O: Origins>(
-    hart: &mut Hart,
-    mem: &M,
-    origins: &O,
-    op: ImmOp,
-    rd: Reg,
-    rs1: Reg,
-    imm: Imm12,
-) -> Acted
-    ensures acts { Acts (O.origin origins.now) (effect_of (O.origin origins.now) (M.contents mem.now) hart.old (Instr.AluImm op rd rs1 imm)) hart.old hart.new (M.contents mem.now) (M.contents mem.now) result }
+fn operate_imm(hart: &mut Hart, op: ImmOp, rd: Reg, rs1: Reg, imm: Imm12) -> Acted
+    ensures { (origin : ℕ → ℕ) (m : Memory) → Acts origin (effect_of origin m hart.old (Instr.AluImm op rd rs1 imm)) hart.old hart.new m m result }
 {
-    let _ = mem;
-    let _ = origins;
     let a = hart.reg(rs1);
     if is_move(op, imm) {
         return next(hart, rd, a);
@@ -195,20 +169,10 @@ fn operate_imm<M: GuestStore, O: Origins>(
 /// A shift by an amount.
 #[inline(always)]
 #[tactic(auto, unfolding(crate::specs::Effects::effect_of, crate::specs::Effects::effect_on, link_tags::specs::Forbidden::uses, crate::specs::Effects::hart_after, crate::specs::Effects::memory_after, crate::specs::Effects::answer_of))]
-fn operate_shift<M: GuestStore, O: Origins>(
-    hart: &mut Hart,
-    mem: &M,
-    origins: &O,
-    op: ShiftOp,
-    rd: Reg,
-    rs1: Reg,
-    by: Shift,
-) -> Acted
+fn operate_shift(hart: &mut Hart, op: ShiftOp, rd: Reg, rs1: Reg, by: Shift) -> Acted
     requires { IsAmount op by }
-    ensures acts { Acts (O.origin origins.now) (effect_of (O.origin origins.now) (M.contents mem.now) hart.old (Instr.ShiftImm op rd rs1 by)) hart.old hart.new (M.contents mem.now) (M.contents mem.now) result }
+    ensures { (origin : ℕ → ℕ) (m : Memory) → Acts origin (effect_of origin m hart.old (Instr.ShiftImm op rd rs1 by)) hart.old hart.new m m result }
 {
-    let _ = mem;
-    let _ = origins;
     let a = hart.reg(rs1);
     if is_link(a) {
         return Acted::LinkUse { rule: 1 };
@@ -219,18 +183,9 @@ fn operate_shift<M: GuestStore, O: Origins>(
 /// A jump to what a register names.
 #[inline(always)]
 #[tactic(auto, unfolding(crate::specs::Effects::effect_of, crate::specs::Effects::effect_on, link_tags::specs::Forbidden::uses, crate::specs::Effects::hart_after, crate::specs::Effects::memory_after, crate::specs::Effects::answer_of))]
-fn jump_register<M: GuestStore, O: Origins>(
-    hart: &mut Hart,
-    mem: &M,
-    origins: &O,
-    rd: Reg,
-    rs1: Reg,
-    off: Imm12,
-) -> Acted
-    ensures acts { Acts (O.origin origins.now) (effect_of (O.origin origins.now) (M.contents mem.now) hart.old (Instr.Jalr rd rs1 off)) hart.old hart.new (M.contents mem.now) (M.contents mem.now) result }
+fn jump_register(hart: &Hart, rd: Reg, rs1: Reg, off: Imm12) -> Acted
+    ensures { (origin : ℕ → ℕ) (m : Memory) → Acts origin (effect_of origin m hart.now (Instr.Jalr rd rs1 off)) hart.now hart.now m m result }
 {
-    let _ = mem;
-    let _ = origins;
     let a = hart.reg(rs1);
     if off.get() != 0 && is_link(a) {
         return Acted::LinkUse { rule: 6 };
@@ -241,24 +196,11 @@ fn jump_register<M: GuestStore, O: Origins>(
 /// A branch.
 #[inline(always)]
 #[tactic(auto, unfolding(crate::specs::Effects::effect_of, crate::specs::Effects::effect_on, link_tags::specs::Forbidden::uses, crate::specs::Effects::hart_after, crate::specs::Effects::memory_after, crate::specs::Effects::answer_of))]
-fn branch_on<M: GuestStore, O: Origins>(
-    hart: &mut Hart,
-    mem: &M,
-    origins: &O,
-    cond: Cond,
-    rs1: Reg,
-    rs2: Reg,
-    off: OffB,
-) -> Acted
-    ensures acts { Acts (O.origin origins.now) (effect_of (O.origin origins.now) (M.contents mem.now) hart.old (Instr.Branch cond rs1 rs2 off)) hart.old hart.new (M.contents mem.now) (M.contents mem.now) result }
+fn branch_on(hart: &mut Hart, cond: Cond, rs1: Reg, rs2: Reg, off: OffB) -> Acted
+    ensures { (origin : ℕ → ℕ) (m : Memory) → Acts origin (effect_of origin m hart.old (Instr.Branch cond rs1 rs2 off)) hart.old hart.new m m result }
 {
-    let _ = mem;
-    let _ = origins;
     let (a, b) = (hart.reg(rs1), hart.reg(rs2));
-    if is_link(a) {
-        return Acted::LinkUse { rule: 2 };
-    }
-    if is_link(b) {
+    if is_link(a) || is_link(b) {
         return Acted::LinkUse { rule: 2 };
     }
     branch(hart, cond, a.number, b.number, off)
@@ -316,13 +258,11 @@ fn reserve<M: GuestStore, O: Origins>(
     mem: &M,
     origins: &O,
     wide: bool,
-    order: Order,
     rd: Reg,
     rs1: Reg,
 ) -> Acted
-    ensures acts { Acts (O.origin origins.now) (effect_of (O.origin origins.now) (M.contents mem.now) hart.old (Instr.Lr wide order rd rs1)) hart.old hart.new (M.contents mem.now) (M.contents mem.now) result }
+    ensures acts { (order : Order) → Acts (O.origin origins.now) (effect_of (O.origin origins.now) (M.contents mem.now) hart.old (Instr.Lr wide order rd rs1)) hart.old hart.new (M.contents mem.now) (M.contents mem.now) result }
 {
-    let _ = order;
     let a = hart.reg(rs1);
     if is_link(a) {
         return Acted::LinkUse { rule: 3 };
@@ -338,15 +278,13 @@ fn conditional<M: GuestStore, O: Origins>(
     mem: &mut M,
     origins: &O,
     wide: bool,
-    order: Order,
     rd: Reg,
     rs1: Reg,
     rs2: Reg,
 ) -> Acted
-    ensures acts { Acts (O.origin origins.now) (effect_of (O.origin origins.now) (M.contents mem.old) hart.old (Instr.Sc wide order rd rs1 rs2)) hart.old hart.new (M.contents mem.old) (M.contents mem.new) result }
+    ensures acts { (order : Order) → Acts (O.origin origins.now) (effect_of (O.origin origins.now) (M.contents mem.old) hart.old (Instr.Sc wide order rd rs1 rs2)) hart.old hart.new (M.contents mem.old) (M.contents mem.new) result }
     ensures room { KeepsRoom (M.room mem.old) (M.room mem.new) }
 {
-    let _ = order;
     let (a, b) = (hart.reg(rs1), hart.reg(rs2));
     if is_link(a) {
         return Acted::LinkUse { rule: 3 };
@@ -366,15 +304,13 @@ fn atomically<M: GuestStore, O: Origins>(
     origins: &O,
     op: AmoOp,
     wide: bool,
-    order: Order,
     rd: Reg,
     rs1: Reg,
     rs2: Reg,
 ) -> Acted
-    ensures acts { Acts (O.origin origins.now) (effect_of (O.origin origins.now) (M.contents mem.old) hart.old (Instr.Amo op wide order rd rs1 rs2)) hart.old hart.new (M.contents mem.old) (M.contents mem.new) result }
+    ensures acts { (order : Order) → Acts (O.origin origins.now) (effect_of (O.origin origins.now) (M.contents mem.old) hart.old (Instr.Amo op wide order rd rs1 rs2)) hart.old hart.new (M.contents mem.old) (M.contents mem.new) result }
     ensures room { KeepsRoom (M.room mem.old) (M.room mem.new) }
 {
-    let _ = order;
     let (a, b) = (hart.reg(rs1), hart.reg(rs2));
     if is_link(a) {
         return Acted::LinkUse { rule: 3 };

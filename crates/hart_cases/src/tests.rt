@@ -1,7 +1,7 @@
 //! Guests of several harts, run from their texts under a schedule.
 //!
 //! A case is a schedule, as harts and their numbers of steps, and what is wanted: the outcome, what was written to output 1,
-//! and what each hart does: L for live, W for waiting, E for ended.
+//! and what each hart does: L for live, W with its address for waiting, E for ended.
 
 use elf_make::make::make_elf;
 use elf_read::read::read_elf;
@@ -239,6 +239,44 @@ waits:
     .space 8
 ";
 
+/// A hart makes two that wait at one word, wakes one of them and lets the other wait at the next word, and then wakes it there.
+const REQUEUE: &str = "\
+.func main
+    lui x20,17
+    lui x18,16
+    addi x18,x18,256
+    add x11,x0,x2
+    addi x17,x0,220
+    add x10,x0,x18
+    ecall
+    beq x10,x0,waits
+    add x10,x0,x18
+    ecall
+    beq x10,x0,waits
+    add x10,x0,x20
+    addi x11,x0,3
+    addi x12,x0,1
+    addi x13,x0,1
+    addi x14,x20,4
+    addi x17,x0,98
+    ecall
+    add x10,x0,x14
+    addi x11,x0,1
+    ecall
+    jal x0,main
+waits:
+    add x10,x0,x20
+    addi x11,x0,0
+    addi x12,x0,0
+    addi x13,x0,0
+    addi x17,x0,98
+    ecall
+    ecall
+.end
+.data
+    .space 8
+";
+
 /// Makes harts without end.
 const MANY: &str = "\
 .func main
@@ -285,11 +323,11 @@ fn run(machine: &mut Machine, image: &Image, schedule: &str) -> Result<(), Fail>
     Ok(())
 }
 
-fn letter(status: Status) -> char {
+fn shown(alloc: Global, status: Status) -> Result<String, AllocError> {
     match status {
-        Status::Live => 'L',
-        Status::Waiting(_) => 'W',
-        Status::Ended => 'E',
+        Status::Live => format!(in alloc; "L"),
+        Status::Waiting(at) => format!(in alloc; "W{at:x}"),
+        Status::Ended => format!(in alloc; "E"),
     }
 }
 
@@ -302,7 +340,7 @@ fn state_of(alloc: Global, machine: &Machine) -> Result<String, AllocError> {
     }
     text.push(' ')?;
     for h in 0..machine.made() {
-        text.push(letter(machine.hart(h).status))?;
+        text.push_str(shown(alloc, machine.hart(h).status)?.as_str())?;
     }
     Ok(text)
 }
@@ -315,27 +353,37 @@ fn played(alloc: Global, image: &Image, schedule: &str) -> Result<String, Fail> 
     Ok(state_of(alloc, &machine)?)
 }
 
-/// The first case of a text's program with another end than is wanted, and that end.
-fn first_wrong<'a>(
-    alloc: Global,
-    text: &str,
-    cases: &'a str,
-) -> Result<Option<(&'a str, String)>, Fail> {
+/// A case that ends otherwise than is wanted, and how.
+#[derive(Debug, Drop)]
+struct Wrong {
+    case: String,
+    got: String,
+}
+
+/// Plays a case of a program.
+fn play(alloc: Global, image: &Image, case: &str) -> Result<(), Fail> {
+    let (schedule, wanted) = case.split_once(" = ").unwrap_or(("", ""));
+    let got = played(alloc, image, schedule)?;
+    if got.as_str() != wanted {
+        let case = format!(in alloc; "{case}")?;
+        Err(Wrong { case, got })?;
+    }
+    Ok(())
+}
+
+/// Plays each case of a text's program.
+fn play_all(alloc: Global, text: &str, cases: &str) -> Result<(), Fail> {
     let image = image_of(alloc, text)?;
     for case in cases.lines() {
-        let (schedule, wanted) = case.split_once(" = ").unwrap_or(("", ""));
-        let got = played(alloc, &image, schedule)?;
-        if got.as_str() != wanted {
-            return Ok(Some((case, got)));
-        }
+        play(alloc, &image, case)?;
     }
-    Ok(None)
+    Ok(())
 }
 
 const HANDOVER_CASES: &str = "\
-0*13 = None  WL
-0*18 7*5 = None  WL
-0*13 1*8 = None  WL
+0*13 = None  W11000L
+0*18 7*5 = None  W11000L
+0*13 1*8 = None  W11000L
 0*13 1*9 = None  LL
 0*13 1*20 = None  LE
 0*13 1*20 0*8 = None A LE
@@ -346,8 +394,7 @@ const HANDOVER_CASES: &str = "\
 
 #[test]
 fn a_hart_waits_until_it_is_woken(rt: HostRuntime) -> Result<(), Fail> {
-    assert_eq!(rt; first_wrong(rt.alloc(), HANDOVER, HANDOVER_CASES)?, None);
-    Ok(())
+    play_all(rt.alloc(), HANDOVER, HANDOVER_CASES)
 }
 
 const RESERVE_CASES: &str = "\
@@ -356,8 +403,7 @@ const RESERVE_CASES: &str = "\
 
 #[test]
 fn accesses_of_others_take_a_reservation_away(rt: HostRuntime) -> Result<(), Fail> {
-    assert_eq!(rt; first_wrong(rt.alloc(), RESERVE, RESERVE_CASES)?, None);
-    Ok(())
+    play_all(rt.alloc(), RESERVE, RESERVE_CASES)
 }
 
 const OWN_WRITE_CASES: &str = "\
@@ -366,8 +412,7 @@ const OWN_WRITE_CASES: &str = "\
 
 #[test]
 fn the_system_takes_the_callers_reservation_too(rt: HostRuntime) -> Result<(), Fail> {
-    assert_eq!(rt; first_wrong(rt.alloc(), OWN_WRITE, OWN_WRITE_CASES)?, None);
-    Ok(())
+    play_all(rt.alloc(), OWN_WRITE, OWN_WRITE_CASES)
 }
 
 const MAPPING_CASES: &str = "\
@@ -377,46 +422,54 @@ const MAPPING_CASES: &str = "\
 
 #[test]
 fn memory_is_mapped_and_given_up(rt: HostRuntime) -> Result<(), Fail> {
-    assert_eq!(rt; first_wrong(rt.alloc(), MAPPING, MAPPING_CASES)?, None);
-    Ok(())
+    play_all(rt.alloc(), MAPPING, MAPPING_CASES)
 }
 
 const STALLED_CASES: &str = "\
-0*13 = None  WL
-0*13 1*2 = None  WL
-0*13 1*4 = Some(Stalled)  WE
+0*13 = None  W11000L
+0*13 1*2 = None  W11000L
+0*13 1*4 = Some(Stalled)  W11000E
 0*6 1*4 = None  LE
-0*6 1*4 0*7 = Some(Stalled)  WE
+0*6 1*4 0*7 = Some(Stalled)  W11000E
 ";
 
 #[test]
 fn a_run_stalls_where_all_that_are_left_wait(rt: HostRuntime) -> Result<(), Fail> {
-    assert_eq!(rt; first_wrong(rt.alloc(), STALLED, STALLED_CASES)?, None);
-    Ok(())
+    play_all(rt.alloc(), STALLED, STALLED_CASES)
 }
 
 const ENDING_CASES: &str = "\
-0*16 1*3 = None  WL
+0*16 1*3 = None  W11000L
 0*16 1*4 = None  LE
 0*16 1*4 0*4 = Some(Exit(3))  EE
 ";
 
 #[test]
 fn a_hart_that_ends_wakes_who_waits_for_it(rt: HostRuntime) -> Result<(), Fail> {
-    assert_eq!(rt; first_wrong(rt.alloc(), ENDING, ENDING_CASES)?, None);
-    Ok(())
+    play_all(rt.alloc(), ENDING, ENDING_CASES)
 }
 
 const ORDER_CASES: &str = "\
-0*10 1*7 2*7 = None  LWW
-0*10 1*7 2*7 0*6 = None  LLW
-0*10 2*7 1*7 0*6 = None  LWL
+0*10 1*7 2*7 = None  LW11000W11000
+0*10 1*7 2*7 0*6 = None  LLW11000
+0*10 2*7 1*7 0*6 = None  LW11000L
 ";
 
 #[test]
 fn the_longest_waiting_is_woken(rt: HostRuntime) -> Result<(), Fail> {
-    assert_eq!(rt; first_wrong(rt.alloc(), ORDER, ORDER_CASES)?, None);
-    Ok(())
+    play_all(rt.alloc(), ORDER, ORDER_CASES)
+}
+
+const REQUEUE_CASES: &str = "\
+0*10 1*7 2*7 = None  LW11000W11000
+0*10 1*7 2*7 0*8 = None  LLW11004
+0*10 1*7 2*7 0*11 = None  LLL
+0*10 2*7 1*7 0*8 = None  LW11004L
+";
+
+#[test]
+fn a_requeued_hart_waits_at_its_new_address(rt: HostRuntime) -> Result<(), Fail> {
+    play_all(rt.alloc(), REQUEUE, REQUEUE_CASES)
 }
 
 const MANY_CASES: &str = "\
@@ -426,8 +479,7 @@ const MANY_CASES: &str = "\
 
 #[test]
 fn harts_are_counted_up_to_their_limit(rt: HostRuntime) -> Result<(), Fail> {
-    assert_eq!(rt; first_wrong(rt.alloc(), MANY, MANY_CASES)?, None);
-    Ok(())
+    play_all(rt.alloc(), MANY, MANY_CASES)
 }
 
 #[test]

@@ -1,13 +1,13 @@
-//! Blocks of functions. A case is a function's number and its blocks, with a `>` behind those whose last word the next
-//! one may follow, or its fault. Addresses are hexadecimal. What is wanted was told by an independent implementation.
+//! Blocks of functions. A row is a guest, a function's number, and its blocks, with a `>` behind those whose last word the next one
+//! may follow; or its fault. Addresses are hexadecimal. What is wanted was told by an independent implementation.
 
-use crate::guests::{
-    COUNTDOWN, FAR_BRANCH, FAULTS, JUMPS, LOOPS, NEIGHBOURS, RECURSION, ZERO_WORD, image_of,
-    image_with_function, number,
-};
 use blocks::fault::Unreadable;
-use blocks::recover::{recover, runs};
+use blocks::index::FuncIndex;
+use blocks::recover::recover;
 use blocks::run::Block;
+use cases::images::image_of;
+use cases::orders::number;
+use cases::rows::split;
 use image::picture::Image;
 use std::alloc::{AllocError, Global};
 use std::test::Fail;
@@ -18,7 +18,7 @@ fn push_block(text: &mut String, alloc: Global, block: &Block) -> Result<(), All
     let piece = format!(in alloc; " {from:x}..{to:x}")?;
     text.push_str(&piece)?;
     if block.falls {
-        text.push('>')?;
+        text.push_str(">")?;
     }
     Ok(())
 }
@@ -50,139 +50,77 @@ fn blocks_text(alloc: Global, image: &Image, f: u32) -> Result<String, AllocErro
     }
 }
 
-/// The first case of a guest with other blocks than are wanted, and those.
-fn first_wrong<'a>(
-    alloc: Global,
-    text: &str,
-    cases: &'a str,
-) -> Result<Option<(&'a str, String)>, Fail> {
-    let image = image_of(alloc, text)?;
-    wrong_in(alloc, &image, cases)
-}
-
-fn wrong_in<'a>(
-    alloc: Global,
-    image: &Image,
-    cases: &'a str,
-) -> Result<Option<(&'a str, String)>, Fail> {
-    for case in cases.lines() {
-        let (f, wanted) = case.split_once(" =").unwrap_or(("", ""));
-        let got = blocks_text(alloc, image, number(f))?;
-        if got.as_str() != wanted {
-            return Ok(Some((case, got)));
+/// The first row with other blocks than are wanted, and those.
+fn first_wrong(alloc: Global, rows: &str) -> Result<String, Fail> {
+    for row in rows.lines() {
+        let (guest, f, wanted) = split(row);
+        let image = image_of(alloc, guest)?;
+        let got = blocks_text(alloc, &image, number(f))?;
+        if got.strip_prefix(' ') != Some(wanted) {
+            return Ok(format!(in alloc; "{row}:{got}")?);
         }
     }
-    Ok(None)
+    Ok(String::new(alloc))
 }
 
-const COUNTDOWN_CASES: &str = "\
-0 = 10000..10010>
-1 = 10010..10014> 10014..1001c 1001c..10028
-2 = none
-";
+const BLOCKS: &str = "\
+countdown | 0 = 10000..10010>
+countdown | 1 = 10010..10014> 10014..1001c 1001c..10028
+countdown | 2 = none
+recursion | 0 = 10000..10010>
+recursion | 1 = 10010..10014 10014..10030> 10030..10034
+over 1021 | 0 = 10000..10008 10008..10ffc> 10ffc..11000>
+loops | 0 = 10000..10004> 10004..1000c 1000c..10010 10010..10014 10014..10018 10018..1001c>
+jumps | 0 = 10000..10004 10004..10008> 10008..1000c 1000c..1001c 1001c..10020
+jumps | 1 = 10020..10024
+neighbours | 0 = 10000..10008>
+neighbours | 1 = 10008..10010>
+zero word | 0 = 10000..10008>";
 
 #[test]
-fn blocks_of_a_loop(rt: HostRuntime) -> Result<(), Fail> {
-    assert_eq!(rt; first_wrong(rt.alloc(), COUNTDOWN, COUNTDOWN_CASES)?, None);
+fn blocks_end_at_branches_jumps_and_their_targets(rt: HostRuntime) -> Result<(), Fail> {
+    assert_eq!(rt; first_wrong(rt.alloc(), BLOCKS)?.as_str(), "");
     Ok(())
 }
 
-const RECURSION_CASES: &str = "\
-0 = 10000..10010>
-1 = 10010..10014 10014..10030> 10030..10034
-";
-
-#[test]
-fn calls_end_no_block(rt: HostRuntime) -> Result<(), Fail> {
-    assert_eq!(rt; first_wrong(rt.alloc(), RECURSION, RECURSION_CASES)?, None);
-    Ok(())
-}
-
-const FAR_BRANCH_CASES: &str = "\
-0 = 10000..10008 10008..10ffc> 10ffc..11000>
-";
-
-#[test]
-fn blocks_of_a_thousand_words(rt: HostRuntime) -> Result<(), Fail> {
-    assert_eq!(rt;
-        first_wrong(rt.alloc(), FAR_BRANCH, FAR_BRANCH_CASES)?,
-        None
-    );
-    Ok(())
-}
-
-const LOOPS_CASES: &str = "\
-0 = 10000..10004> 10004..1000c 1000c..10010 10010..10014 10014..10018 10018..1001c>
-";
-
-#[test]
-fn blocks_that_jump_to_themselves(rt: HostRuntime) -> Result<(), Fail> {
-    assert_eq!(rt; first_wrong(rt.alloc(), LOOPS, LOOPS_CASES)?, None);
-    Ok(())
-}
-
-const JUMPS_CASES: &str = "\
-0 = 10000..10004 10004..10008> 10008..1000c 1000c..1001c 1001c..10020
-1 = 10020..10024
-";
-
-#[test]
-fn jumps_without_a_link_end_a_block(rt: HostRuntime) -> Result<(), Fail> {
-    assert_eq!(rt; first_wrong(rt.alloc(), JUMPS, JUMPS_CASES)?, None);
-    Ok(())
-}
-
-const ZERO_WORD_CASES: &str = "\
-0 = 10000..10008>
-1 = undecodable 10008
-";
-
-const FAULTS_CASES: &str = "\
-0 = branch out 10008
-1 = branch out 1000c
-2 = branch out 10010
-3 = misaimed 10018
-4 = misaimed 1001c
-5 = undecodable 10024
-6 = misaimed 10030
-";
+const FAULTS: &str = "\
+zero word | 1 = undecodable 10008
+faults | 0 = branch out 10008
+faults | 1 = branch out 1000c
+faults | 2 = branch out 10010
+faults | 3 = misaimed 10018
+faults | 4 = misaimed 1001c
+faults | 5 = undecodable 10024
+faults | 6 = misaimed 10030";
 
 #[test]
 fn the_first_fault_is_told(rt: HostRuntime) -> Result<(), Fail> {
-    assert_eq!(rt; first_wrong(rt.alloc(), ZERO_WORD, ZERO_WORD_CASES)?, None);
-    assert_eq!(rt; first_wrong(rt.alloc(), FAULTS, FAULTS_CASES)?, None);
+    assert_eq!(rt; first_wrong(rt.alloc(), FAULTS)?.as_str(), "");
     Ok(())
 }
 
-/// The function `a` has the first two words, `b` the last two, and one between them the second and the third.
-const OVERLAP_CASES: &str = "\
-0 = overlap 1
-1 = overlap 0
-2 = overlap 1
-";
-
-const NEIGHBOURS_CASES: &str = "\
-0 = 10000..10008>
-1 = 10008..10010>
-";
+/// The null symbol names one more function, which has the second word of the first and the first word of the second.
+const OVERLAPPING: &str = "\
+neighbours with 1010:8:1000200000000 1018:8:10004 1020:8:8 | 0 = overlap 1
+neighbours with 1010:8:1000200000000 1018:8:10004 1020:8:8 | 1 = overlap 0
+neighbours with 1010:8:1000200000000 1018:8:10004 1020:8:8 | 2 = overlap 1";
 
 #[test]
 fn functions_that_overlap_have_no_blocks(rt: HostRuntime) -> Result<(), Fail> {
-    let alloc = rt.alloc();
-    assert_eq!(rt; first_wrong(alloc, NEIGHBOURS, NEIGHBOURS_CASES)?, None);
-    let image = image_with_function(alloc, NEIGHBOURS, 0x10004, 8)?;
-    assert_eq!(rt; wrong_in(alloc, &image, OVERLAP_CASES)?, None);
+    assert_eq!(rt; first_wrong(rt.alloc(), OVERLAPPING)?.as_str(), "");
     Ok(())
 }
 
-#[test]
-fn runs_have_their_words(rt: HostRuntime) -> Result<(), Fail> {
-    let alloc = rt.alloc();
-    let image = image_of(alloc, COUNTDOWN)?;
+/// Where the runs of a guest's second function begin, and how many words each has.
+fn runs_text(alloc: Global, guest: &str) -> Result<String, Fail> {
+    let image = image_of(alloc, guest)?;
     if image.funcs().len() < 2 {
         return Err(Fail::new("no such function"));
     }
-    let Ok(runs) = runs(alloc, &image, 1) else {
+    let Ok(index) = FuncIndex::new(alloc, &image) else {
+        return Err(Fail::new("out of memory"));
+    };
+    let Ok(runs) = index.runs(alloc, 1) else {
         return Err(Fail::new("no blocks"));
     };
     let mut text = String::new(alloc);
@@ -192,6 +130,14 @@ fn runs_have_their_words(rt: HostRuntime) -> Result<(), Fail> {
         let piece = format!(in alloc; "{from:x}: {n} ")?;
         text.push_str(&piece)?;
     }
-    assert_eq!(rt; text.as_str(), "10010: 1 10014: 2 1001c: 3 ");
+    Ok(text)
+}
+
+#[test]
+fn runs_have_their_words(rt: HostRuntime) -> Result<(), Fail> {
+    assert_eq!(rt;
+        runs_text(rt.alloc(), "countdown")?.as_str(),
+        "10010: 1 10014: 2 1001c: 3 "
+    );
     Ok(())
 }

@@ -1,12 +1,10 @@
-//! Tests of moved code: guests as text, their blocks, and plans for them; free ranges; layouts.
+//! Tests of moved code: the blocks of guests, plans of them, layouts; and free ranges.
 #![tactic(auto)]
 
 #[cfg(test)]
 mod block_tests;
 #[cfg(test)]
-mod emission_tests;
-#[cfg(test)]
-mod guests;
+mod layout_tests;
 #[cfg(test)]
 mod plan_tests;
 #[cfg(test)]

@@ -13,7 +13,7 @@ use Rattle.link_tags.specs.declared.value.Tag.TheVariants.{Plain}
 use Rattle.guest_mem.specs.declared.words.Word.{Word}
 use Rattle.guest_mem.specs.Memory.{Memory, blank, byte_at, bytes_of, with_word}
 use Rattle.guest_mem.specs.Access.{mapped, touched}
-use Rattle.machine.specs.declared.TheConstants.{STACK_START, STACK_END, STACK_POINTER, NAME_AT}
+use Rattle.machine.specs.Stack.{stack_start, stack_end, stack_pointer, name_at}
 use Rattle.machine.specs.Start.{with_bytes, with_parts, with_words, first_words, with_stack, with_slot, with_slots, start_memory}
 use Rattle.machine.specs.Loaded.{IsLoaded, is_stack, byte_of_part, byte_of_words, byte_of_stack}
 use Rattle.machine.proofs.LoadedParts.{IsPlain, bytes_put, part_byte, part_readable, part_writable_at, parts_read, parts_plain}
@@ -103,9 +103,9 @@ bytes_plain m at bytes plain w =
 
 stack_plain : (image : Picture) (m : Memory) → IsPlain m → IsPlain (with_stack image m)
 stack_plain image m plain =
-    let mm = mapped m STACK_START (STACK_END - STACK_START) true true in
-    words_plain STACK_POINTER (first_words image) (with_bytes mm NAME_AT (codes "guest"))
-    (bytes_plain mm NAME_AT (codes "guest") (mapped_plain m STACK_START (STACK_END - STACK_START) true true plain))
+    let mm = mapped m stack_start (stack_end - stack_start) true true in
+    words_plain stack_pointer (first_words image) (with_bytes mm name_at (codes "guest"))
+    (bytes_plain mm name_at (codes "guest") (mapped_plain m stack_start (stack_end - stack_start) true true plain))
 
 nested : (w n s : Bool) (x y z : ℕ) → (w ≡ true → s ≡ true) → (n ≡ true → s ≡ true) → cond w x (cond n y (cond s 0 z)) ≡ cond s (cond w x (cond n y 0)) z
 nested w n true x y z a b = refl
@@ -113,31 +113,31 @@ nested true n false x y z a b = let e = a refl in absurd cc
 nested false true false x y z a b = let e = b refl in absurd cc
 nested false false false x y z a b = refl
 
-words_on_stack : (a : ℕ) → within STACK_POINTER 128 a ≡ true → is_stack a ≡ true
+words_on_stack : (a : ℕ) → within stack_pointer 128 a ≡ true → is_stack a ≡ true
 words_on_stack a e = grind (arith, nat_tests)
 
-name_on_stack : (a : ℕ) → within NAME_AT 5 a ≡ true → is_stack a ≡ true
+name_on_stack : (a : ℕ) → within name_at 5 a ≡ true → is_stack a ≡ true
 name_on_stack a e = grind (arith, nat_tests)
 
 stack_bytes : (image : Picture) (m : Memory) (a : ℕ) → IsPlain m → byte_at (with_stack image m) a ≡ cond (is_stack a) (byte_of_stack image a) (byte_at m a)
 stack_bytes image m a plain =
-    let n = STACK_END - STACK_START in
-    let mm = mapped m STACK_START n true true in
-    words_bytes STACK_POINTER (first_words image) (with_bytes mm NAME_AT (codes "guest")) a refl
-    ∙ ap (cond (within STACK_POINTER 128 a) (byte_of_words STACK_POINTER (first_words image) a))
-    (bytes_put mm NAME_AT (codes "guest") a (mapped_plain m STACK_START n true true plain)
-    ∙ ap (cond (within NAME_AT 5 a) (get_or (codes "guest") (a - NAME_AT) 0)) (at-fill m.bytes STACK_START n (λ _. 0) a))
-    ∙ nested (within STACK_POINTER 128 a) (within NAME_AT 5 a) (is_stack a) (byte_of_words STACK_POINTER (first_words image) a) (get_or (codes "guest") (a - NAME_AT) 0) (byte_at m a) (words_on_stack a) (name_on_stack a)
+    let n = stack_end - stack_start in
+    let mm = mapped m stack_start n true true in
+    words_bytes stack_pointer (first_words image) (with_bytes mm name_at (codes "guest")) a refl
+    ∙ ap (cond (within stack_pointer 128 a) (byte_of_words stack_pointer (first_words image) a))
+    (bytes_put mm name_at (codes "guest") a (mapped_plain m stack_start n true true plain)
+    ∙ ap (cond (within name_at 5 a) (get_or (codes "guest") (a - name_at) 0)) (at-fill m.bytes stack_start n (λ _. 0) a))
+    ∙ nested (within stack_pointer 128 a) (within name_at 5 a) (is_stack a) (byte_of_words stack_pointer (first_words image) a) (get_or (codes "guest") (a - name_at) 0) (byte_at m a) (words_on_stack a) (name_on_stack a)
 
 stack_readable : (image : Picture) (m : Memory) (a : ℕ) → contains (with_stack image m).readable a ≡ cond (is_stack a) true (contains m.readable a)
 stack_readable image m a =
-    words_readable STACK_POINTER (first_words image) (with_bytes (mapped m STACK_START (STACK_END - STACK_START) true true) NAME_AT (codes "guest")) a
-    ∙ contains-mark m.readable STACK_START (STACK_END - STACK_START) (λ _. true) a
+    words_readable stack_pointer (first_words image) (with_bytes (mapped m stack_start (stack_end - stack_start) true true) name_at (codes "guest")) a
+    ∙ contains-mark m.readable stack_start (stack_end - stack_start) (λ _. true) a
 
 stack_writable : (image : Picture) (m : Memory) (a : ℕ) → contains (with_stack image m).writable a ≡ cond (is_stack a) true (contains m.writable a)
 stack_writable image m a =
-    words_writable STACK_POINTER (first_words image) (with_bytes (mapped m STACK_START (STACK_END - STACK_START) true true) NAME_AT (codes "guest")) a
-    ∙ contains-mark m.writable STACK_START (STACK_END - STACK_START) (λ _. true) a
+    words_writable stack_pointer (first_words image) (with_bytes (mapped m stack_start (stack_end - stack_start) true true) name_at (codes "guest")) a
+    ∙ contains-mark m.writable stack_start (stack_end - stack_start) (λ _. true) a
 
 -- ---- all of it
 or_none : (b c : Bool) → c ≡ false → (b || c) ≡ b

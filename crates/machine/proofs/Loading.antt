@@ -10,7 +10,7 @@ use Rattle.link_tags.specs.declared.value.Tag.TheVariants.{Link}
 use Rattle.guest_mem.specs.Memory.{Memory, byte_at, word_of, with_word}
 use Rattle.guest_mem.specs.Access.{mapped, with_rights, HoldsWholeLinks}
 use Rattle.guest_mem.proofs.Reading.{same_memory, get_or-bytes_from}
-use Rattle.machine.specs.declared.TheConstants.{STACK_START, STACK_END, NAME_AT}
+use Rattle.machine.specs.Stack.{stack_start, stack_end, name_at}
 use Rattle.machine.specs.Start.{with_bytes, with_part, with_slot}
 
 -- places that were marked are all there
@@ -97,7 +97,7 @@ part_writable p m m1 bytes fit is same =
     ∙ all_marked m.writable p.range.from (p.range.to - p.range.from) p.range.from (length p.bytes) (omega arith) (omega (arith, fit.some, fit.filled))
 
 -- so may the bytes of the program's name on the stack
-pub name_writable : (m m1 : Memory) → m1 ≡ mapped m STACK_START (STACK_END - STACK_START) true true → contains_all m1.writable NAME_AT 5 ≡ true
+pub name_writable : (m m1 : Memory) → m1 ≡ mapped m stack_start (stack_end - stack_start) true true → contains_all m1.writable name_at 5 ≡ true
 name_writable m m1 is =
-    ap (λ (x : Memory). contains_all x.writable NAME_AT 5) is
-    ∙ all_marked m.writable STACK_START (STACK_END - STACK_START) NAME_AT 5 (omega arith) (omega arith)
+    ap (λ (x : Memory). contains_all x.writable name_at 5) is
+    ∙ all_marked m.writable stack_start (stack_end - stack_start) name_at 5 (omega arith) (omega arith)

@@ -15,7 +15,7 @@ use Rattle.guest_sys.specs.declared.service.Service.{Service}
 use Rattle.guest_sys.specs.declared.service.Service.TheVariants as call
 use Rattle.guest_sys.specs.declared.service.Operation.{Operation}
 use Rattle.guest_sys.specs.declared.service.Operation.TheVariants as futex
-use Rattle.guest_sys.specs.declared.TheConstants.{OUTPUT_LIMIT, HART_LIMIT}
+use Rattle.guest_sys.specs.Limits.{output_limit, hart_limit}
 use Rattle.guest_sys.specs.Services.{operation_of, link_read}
 use Rattle.guest_sys.specs.State.{State, pages}
 use Rattle.guest_sys.specs.Calls.{Done, fails, added, read, write_parts, written, write, writev, exit, wait, wake, requeue, futex_call, brk, munmap, mmap, mprotect, clone, served, unless_link, asked, Ends, bytes_of_parts, all_readable, output, is_output, is_cleared, is_page, is_mapping, has, is_thread, is_word, tid_words}
@@ -47,7 +47,7 @@ read_counts writable s fd at count = either s (not (fd == 0)) _ _ (record { made
 
 write_parts_counts : (see : ℕ → ℕ) (readable : Places) (s : State) (fd : ℕ) (ps : List (ℕ × ℕ)) → Counts s (write_parts see readable s fd ps)
 unfolding write_parts
-write_parts_counts see readable s fd ps = either s (not (all_readable readable ps)) _ _ (record { made = refl }) (either s (nat_lt OUTPUT_LIMIT (length (output s fd) + length (bytes_of_parts see ps))) _ _ (record { made = refl }) (record { made = added_made s fd (bytes_of_parts see ps) }))
+write_parts_counts see readable s fd ps = either s (not (all_readable readable ps)) _ _ (record { made = refl }) (either s (nat_lt output_limit (length (output s fd) + length (bytes_of_parts see ps))) _ _ (record { made = refl }) (record { made = added_made s fd (bytes_of_parts see ps) }))
 
 write_counts : (see : ℕ → ℕ) (readable : Places) (s : State) (fd at count : ℕ) → Counts s (write see readable s fd at count)
 unfolding write
@@ -113,7 +113,7 @@ mprotect_counts s at len rights = either s (not (is_page at)) _ _ (record { made
 clone_counts : (writable : Places) (s : State) (flags stack parent tls child : ℕ) → Counts s (clone writable s flags stack parent tls child)
 unfolding clone
 clone_counts writable s flags stack parent tls child =
-    either s (not (is_thread flags) || stack == 0) _ _ (record { made = refl }) (either s (not (list_all (is_word writable) (tid_words flags parent child))) _ _ (record { made = refl }) (either s (s.made == HART_LIMIT) _ _ (record { made = refl }) (record { made = refl })))
+    either s (not (is_thread flags) || stack == 0) _ _ (record { made = refl }) (either s (not (list_all (is_word writable) (tid_words flags parent child))) _ _ (record { made = refl }) (either s (s.made == hart_limit) _ _ (record { made = refl }) (record { made = refl })))
 
 served_counts : (see : ℕ → ℕ) (readable writable : Places) (s : State) (h clear : ℕ) (service : Service) (a0 a1 a2 a3 a4 : ℕ) → Counts s (served see readable writable s h clear service a0 a1 a2 a3 a4)
 served_counts see readable writable s h clear call.Ioctl a0 a1 a2 a3 a4 = record { made = refl }
@@ -167,7 +167,7 @@ replied_length h (reply.LinkUse k) hs before after made same = same ∙ sym made
 replied_length h reply.OutputFull hs before after made same = same ∙ sym made
 replied_length h reply.HartsFull hs before after made same = same ∙ sym made
 
-pub has_room : (r : Reply) (before after n : ℕ) → MadeBy r before after → after ≤ HART_LIMIT → n ≡ before → HasRoom r n
+pub has_room : (r : Reply) (before after n : ℕ) → MadeBy r before after → after ≤ hart_limit → n ≡ before → HasRoom r n
 has_room (reply.Clone stack thread clear tid) before after n made few same = omega (arith, made, few, same)
 has_room (reply.Answer value) before after n made few same = tt
 has_room (reply.Wait at) before after n made few same = tt

@@ -10,6 +10,7 @@ use Rattle.hart.specs.declared.hart.Hart.{Hart}
 use Rattle.hart.specs.declared.hart.Status.{Status}
 use Rattle.hart.specs.declared.hart.Status.TheVariants.{Live, Waiting, Ended}
 use Rattle.hart.specs.Harts.{with_reg, after}
+use Rattle.guest_sys.specs.declared.state.Waiter.{Waiter}
 use Rattle.guest_sys.specs.declared.effect.Reply.{Reply}
 use Rattle.guest_sys.specs.declared.effect.Reply.TheVariants as reply
 
@@ -60,6 +61,14 @@ awake h = record h { regs = with_reg h.regs 10 (plain 0); status = Live }
 abbrev pub woken : List ℕ → List Hart → List Hart
 woken [] harts = harts
 woken (k ∷ ks) harts = woken ks (slice_set harts k (awake (hart_in harts k)))
+
+-- each hart of the system's list waits where the list has it: one that was requeued, at its new address
+abbrev pub waiting_at : ℕ → Hart → Hart
+waiting_at at h = record h { status = Waiting at }
+
+abbrev pub waiting_as : List Waiter → List Hart → List Hart
+waiting_as [] harts = harts
+waiting_as (w ∷ ws) harts = waiting_as ws (slice_set harts w.hart (waiting_at w.at (hart_in harts w.hart)))
 
 -- no hart is live, and not all have ended
 abbrev pub is_stalled : List Hart → Bool

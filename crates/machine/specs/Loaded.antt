@@ -7,11 +7,11 @@ use Rattle.image.specs.declared.ranges.Part.{Part}
 use Rattle.image.specs.Picture.{Picture}
 use Rattle.image.specs.Aims.{covers_part}
 use Rattle.guest_mem.specs.Memory.{Memory, byte_at, bytes_of}
-use Rattle.machine.specs.declared.TheConstants.{STACK_START, STACK_END, STACK_POINTER, NAME_AT}
+use Rattle.machine.specs.Stack.{stack_start, stack_end, stack_pointer, name_at}
 use Rattle.machine.specs.Start.{first_words}
 
 abbrev pub is_stack : ℕ → Bool
-is_stack a = within STACK_START (STACK_END - STACK_START) a
+is_stack a = within stack_start (stack_end - stack_start) a
 
 -- a byte of the data part that covers it; past its bytes a part is zero
 abbrev pub byte_of_part : ℕ → Part → ℕ
@@ -24,8 +24,8 @@ byte_of_words from words a = get_or (bytes_of (get_or words ((a - from) / 8) 0))
 -- a byte of the stack: of the words at x2, of the name, or zero
 abbrev pub byte_of_stack : Picture → ℕ → ℕ
 byte_of_stack image a =
-    if within STACK_POINTER 128 a then byte_of_words STACK_POINTER (first_words image) a
-    else (if within NAME_AT 5 a then get_or (codes "guest") (a - NAME_AT) 0 else 0)
+    if within stack_pointer 128 a then byte_of_words stack_pointer (first_words image) a
+    else (if within name_at 5 a then get_or (codes "guest") (a - name_at) 0 else 0)
 
 pub record IsLoaded (image : Picture) (m : Memory) : Type 0 where
   pub bytes : (a : ℕ) → byte_at m a ≡ (if is_stack a then byte_of_stack image a else option_map_or (byte_of_part a) (find (covers_part a) image.parts) 0)

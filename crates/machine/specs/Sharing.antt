@@ -8,7 +8,7 @@ use Rattle.hart.specs.Effects.{Effect, IsWrite, hart_after, memory_after, answer
 use Rattle.guest_mem.specs.Memory.{Memory}
 use Rattle.guest_sys.specs.declared.effect.Reply.{Reply}
 use Rattle.guest_sys.specs.declared.effect.Reply.TheVariants as reply
-use Rattle.guest_sys.specs.declared.TheConstants.{HART_LIMIT}
+use Rattle.guest_sys.specs.Limits.{hart_limit}
 use Rattle.machine.specs.Harts.{hart_in}
 
 -- no hart holds a reservation
@@ -17,7 +17,7 @@ HoldsNone harts = All (λ h. h.reservation ≡ None) harts
 
 -- there is room for the hart that a reply makes, if it makes one, beside so many
 abbrev pub HasRoom : Reply → ℕ → Type 0
-HasRoom (reply.Clone stack thread clear tid) made = made < HART_LIMIT
+HasRoom (reply.Clone stack thread clear tid) made = made < hart_limit
 HasRoom _ made = Unit {0}
 
 -- what stands after an effect e on hart h, by the answer: the lists and m were before, and those with ' are now

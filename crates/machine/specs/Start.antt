@@ -14,7 +14,7 @@ use Rattle.guest_mem.specs.Memory.{Memory, blank, bytes_of, with_word}
 use Rattle.guest_mem.specs.Access.{put, mapped}
 use Rattle.hart.specs.declared.hart.Hart.{Hart}
 use Rattle.hart.specs.declared.hart.Status.TheVariants.{Live}
-use Rattle.machine.specs.declared.TheConstants.{STACK_START, STACK_END, STACK_POINTER, NAME_AT}
+use Rattle.machine.specs.Stack.{stack_start, stack_end, stack_pointer, name_at}
 use Rattle.guest_sys.specs.State.{pages, fresh}
 use Rattle.machine.specs.States.{State}
 
@@ -49,13 +49,13 @@ with_words at (n ∷ ns) m = with_words (at + 8) ns (with_word m (at / 8) (recor
 -- headers, their size and their number, the size of a page, and the entry
 abbrev pub first_words : Picture → List ℕ
 first_words image =
-    1 ∷ NAME_AT ∷ 0 ∷ 0 ∷ 3 ∷ image.headers.0 ∷ 4 ∷ 56 ∷ 5 ∷ image.headers.1 ∷ 6 ∷ 4096 ∷ 9 ∷ image.entry ∷ 0 ∷ 0 ∷ []
+    1 ∷ name_at ∷ 0 ∷ 0 ∷ 3 ∷ image.headers.0 ∷ 4 ∷ 56 ∷ 5 ∷ image.headers.1 ∷ 6 ∷ 4096 ∷ 9 ∷ image.entry ∷ 0 ∷ 0 ∷ []
 
 -- the stack may be read and written, and is zero but for the name and these words
 abbrev pub with_stack : Picture → Memory → Memory
 with_stack image m =
-    with_words STACK_POINTER (first_words image)
-    (with_bytes (mapped m STACK_START (STACK_END - STACK_START) true true) NAME_AT (codes "guest"))
+    with_words stack_pointer (first_words image)
+    (with_bytes (mapped m stack_start (stack_end - stack_start) true true) name_at (codes "guest"))
 
 unfoldable pub start_memory : Picture → Memory
 start_memory image = with_slots image.slots (with_stack image (with_parts image.parts blank))
@@ -64,7 +64,7 @@ start_memory image = with_slots image.slots (with_stack image (with_parts image.
 -- each register is zero and Plain, but for x2
 abbrev pub start_hart : Picture → Hart
 start_hart image = record {
-  regs = slice_set (replicate 32 (plain 0)) 2 (plain STACK_POINTER);
+  regs = slice_set (replicate 32 (plain 0)) 2 (plain stack_pointer);
   pc = image.entry;
   reservation = None;
   status = Live;

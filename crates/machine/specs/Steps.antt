@@ -22,7 +22,7 @@ use Rattle.guest_sys.specs.declared.effect.Reply.TheVariants as reply
 use Rattle.guest_sys.specs.Calls.{Done, asked, all_changed, ranges}
 use Rattle.machine.specs.declared.outcome.Outcome.{Outcome}
 use Rattle.machine.specs.declared.outcome.Outcome.TheVariants.{Exit, Trap, LinkUse, Landing, OutputFull, HartsFull, Stalled}
-use Rattle.machine.specs.Harts.{is_live, has_ended, hart_in, written_by, written_in, woken, is_stalled, replied}
+use Rattle.machine.specs.Harts.{is_live, has_ended, hart_in, written_by, written_in, woken, waiting_as, is_stalled, replied}
 use Rattle.machine.specs.States.{State}
 
 -- the run ends so
@@ -75,13 +75,13 @@ end_by origin h reply.OutputFull harts = Some OutputFull
 end_by origin h reply.HartsFull harts = Some HartsFull
 end_by origin h _ harts = None
 
--- the harts after a call of hart h that does d
+-- the harts after a call of hart h that does d, but for where those wait that it requeued
 abbrev pub harts_after : ℕ → Done → List Hart → List Hart
 harts_after h d harts = replied h d.reply (woken d.woken (written_in (ranges d.changes) harts))
 
 unfoldable pub called : (ℕ → ℕ) → ℕ → Done → State → State
 called origin h d s = record {
-  harts = harts_after h d s.harts;
+  harts = waiting_as d.state.waiting (harts_after h d s.harts);
   memory = all_changed origin s.memory d.changes;
   system = d.state;
   outcome = end_by origin h d.reply (harts_after h d s.harts);

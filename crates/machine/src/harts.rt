@@ -4,13 +4,15 @@ ghost use Rattle.std.specs.List.{list_any, list_all};
 ghost use Rattle.rv_isa.specs.Instr.{HasWord};
 ghost use Rattle.hart.specs.Harts.{reg, jumped};
 ghost use Rattle.hart.specs.Effects.{effect_of, Acts, hart_after};
-ghost use Rattle.machine.specs.Harts.{is_live, has_ended, hart_in, lost, unreserved, written_by, written_in, is_in, woken, awake, is_stalled, answered, stopped, child_of, with_thread, replied};
+ghost use Rattle.guest_sys.specs.Limits.{hart_limit};
+ghost use Rattle.machine.specs.Harts.{is_live, has_ended, hart_in, lost, unreserved, written_by, written_in, is_in, woken, awake, waiting_at, waiting_as, is_stalled, answered, stopped, child_of, with_thread, replied};
 ghost use Rattle.machine.specs.Steps.{arguments_of};
 ghost use Rattle.machine.specs.Sharing.{ActsIn, HasRoom, HoldsNone};
 
 use guest_mem::memory::GuestMem;
 use guest_sys::HART_LIMIT;
 use guest_sys::effect::Reply;
+use guest_sys::state::Waiter;
 use hart::act::{Acted, act, next};
 use hart::hart::{Hart, Status, finish_jump};
 use link_tags::origins::Origins;
@@ -34,7 +36,7 @@ impl Model for Harts {
     ghost use Rattle.std.specs.Prelude.{List, ◌≡◌, ◌≤◌, false, vec_capacity};
     ghost use Rattle.std.specs.Coded.{codes};
     ghost use Rattle.hart.specs.declared.hart.Hart.{Hart};
-    ghost use Rattle.guest_sys.specs.declared.TheConstants.{HART_LIMIT};
+    ghost use Rattle.guest_sys.specs.Limits.{hart_limit};
     ghost use Rattle.machine.specs.Sharing.{HoldsNone};
 
     ghost Value = { List Hart };
@@ -43,7 +45,7 @@ impl Model for Harts {
 
     ghost view = { λ s. s.list.items };
 
-    ghost invariant = { λ s. (HART_LIMIT ≤ vec_capacity s.list) × (s.reserved ≡ false → HoldsNone s.list.items) };
+    ghost invariant = { λ s. (hart_limit ≤ vec_capacity s.list) × (s.reserved ≡ false → HoldsNone s.list.items) };
 }
 
 impl Harts {
@@ -183,6 +185,25 @@ impl Harts {
         }
     }
 
+    /// Lets each hart of the system's list wait where the list has it.
+    pub fn set_waiting(&mut self, list: &[Waiter])
+        ensures is { self.new ≡ waiting_as list.now self.old }
+        ensures made { length self.new ≡ length self.old }
+    {
+        for waiter in list {
+            self.set_waiter(*waiter);
+        }
+    }
+
+    fn set_waiter(&mut self, waiter: Waiter)
+        ensures is { self.new ≡ slice_set self.old waiter.hart (waiting_at waiter.at (hart_in self.old waiter.hart)) }
+        ensures made { length self.new ≡ length self.old }
+    {
+        if (waiter.hart as usize) < self.list.len() {
+            self.list[waiter.hart as usize].status = Status::Waiting(waiter.at);
+        }
+    }
+
     /// Does for the harts what the system replies to hart `h`.
     #[tactic(auto, unfolding(crate::specs::Harts::replied))]
     pub fn reply(&mut self, h: u32, reply: Reply)
@@ -242,7 +263,7 @@ impl Harts {
     /// A call that makes a hart.
     fn add_child(&mut self, h: u32, stack: u64, thread: Option<u64>, clear: u64, tid: u32)
         requires made { h < length self.old }
-        requires room { length self.old < HART_LIMIT }
+        requires room { length self.old < hart_limit }
         ensures { self.new ≡ slice_set self.old h (answered tid (hart_in self.old h)) ++ child_of (hart_in self.old h) stack thread clear ∷ [] }
     {
         let child = child_of(&self.list[h as usize], stack, thread, clear);

@@ -285,6 +285,7 @@ impl Machine {
         };
         self.system.orderly();
         self.outcome = finish_call(&mut self.harts, origins, h, &effect);
+        self.harts.set_waiting(self.system.waiting());
         Ok(())
     }
 

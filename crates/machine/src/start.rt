@@ -5,7 +5,7 @@ ghost use Rattle.image.specs.Picture.{IsPart};
 ghost use Rattle.guest_mem.specs.Memory.{Memory, with_word, word_of, bytes_of};
 ghost use Rattle.machine.specs.Loaded.{IsLoaded};
 ghost use Rattle.guest_sys.specs.State.{pages};
-ghost use Rattle.guest_sys.specs.declared.TheConstants.{MAP_END};
+ghost use Rattle.guest_sys.specs.Limits.{map_end};
 ghost use Rattle.machine.specs.Start.{highest, end_of, break_of, with_bytes, with_part, with_parts, with_slot, with_slots, with_words, first_words, with_stack, start_memory, start_hart};
 
 use crate::{NAME_AT, STACK_END, STACK_POINTER, STACK_START};
@@ -41,7 +41,7 @@ pub fn start_hart(image: &Image) -> Hart
 pub fn break_of(image: &Image) -> u64
     ensures is { result ≡ break_of image.now }
     ensures whole { result % 4096 ≡ 0 }
-    ensures low { result ≤ MAP_END }
+    ensures low { result ≤ map_end }
 {
     image.kept();
     let texts = highest_end(image.texts());

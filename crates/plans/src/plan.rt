@@ -9,7 +9,7 @@ ghost use Rattle.plans.specs.Given.{block_count, is_missing, is_misordered, plan
 
 use crate::order::{is_order, numbers_of};
 use blocks::fault::Unreadable;
-use blocks::recover::runs;
+use blocks::index::FuncIndex;
 use image::picture::Image;
 use oc_base::fault::NoMemory;
 use oc_base::items::Items;
@@ -147,22 +147,22 @@ fn some_twice(alloc: Global, parts: &[Moved]) -> Result<bool, NoMemory>
 
 /// How many blocks a function counts as having.
 #[tactic(auto, unfolding(crate::specs::Given::block_count))]
-fn block_count(alloc: Global, image: &Image, m: &Moved) -> Result<usize, NoMemory>
-    requires { m.now.func < length image.now.funcs }
-    ensures { IfOk result (λ n. n ≡ block_count image.now m.now) }
+fn block_count(alloc: Global, index: &FuncIndex, m: &Moved) -> Result<usize, NoMemory>
+    requires { m.now.func < length index.now.image.now.funcs }
+    ensures { IfOk result (λ n. n ≡ block_count index.now.image.now m.now) }
 {
-    match runs(alloc, image, m.func) {
+    match index.runs(alloc, m.func) {
         Ok(runs) => Ok(runs.len()),
         Err(Unreadable::NoMemory) => Err(NoMemory),
         Err(_) => Ok(m.order.len().max(1)),
     }
 }
 
-fn is_misordered(alloc: Global, image: &Image, m: &Moved) -> Result<bool, NoMemory>
-    requires { m.now.func < length image.now.funcs }
-    ensures { IfOk result (λ b. b ≡ is_misordered image.now m.now) }
+fn is_misordered(alloc: Global, index: &FuncIndex, m: &Moved) -> Result<bool, NoMemory>
+    requires { m.now.func < length index.now.image.now.funcs }
+    ensures { IfOk result (λ b. b ≡ is_misordered index.now.image.now m.now) }
 {
-    let count = block_count(alloc, image, m)?;
+    let count = block_count(alloc, index, m)?;
     let is = is_order(alloc, count, m.order.as_slice())?;
     Ok(!is)
 }
@@ -172,8 +172,9 @@ fn some_misordered(alloc: Global, image: &Image, parts: &[Moved]) -> Result<bool
     requires { list_any (is_missing image.now) parts.now ≡ false }
     ensures { IfOk result (λ b. b ≡ list_any (is_misordered image.now) parts.now) }
 {
+    let index = FuncIndex::new(alloc, image)?;
     for m in parts {
-        if is_misordered(alloc, image, m)? {
+        if is_misordered(alloc, &index, m)? {
             return Ok(true);
         }
     }

@@ -9,7 +9,6 @@ use Rattle.sim_laws.specs.Steps.{original_after}
 use Rattle.world.specs.Worlds.{Replaced, Related, kind_of, step_of, started}
 use Rattle.world.specs.Replacing.{Replaces}
 use Rattle.world.specs.Runs.{real_kind_of, real_step_of}
-use Rattle.play.specs.Events.{IsWorld}
 use Rattle.play.specs.Ready.{CanMove}
 
 -- the world stands for a state of the original machine, and its system is one that a run can come to
@@ -21,7 +20,7 @@ pub record Laws : Type 0 where
   pub start : (image : Picture) (input : List ℕ) → IsKept image → Stands (started image input) (start_of image input)
   pub step : (h : ℕ) (w : Replaced) (o : State) → Stands w o → Stands (step_of h w) (original_after (kind_of h w) w.image h o)
   pub real : (h : ℕ) (w : Replaced) (o : State) → Stands w o → Stands (real_step_of h w) (original_after (real_kind_of h w) w.image h o)
-  pub replaced : (plan : List Moved) (w v : Replaced) (o : State) → CanMove plan w → IsWorld v → Replaces plan w v → Stands w o → Stands v o
+  pub replaced : (plan : List Moved) (w v : Replaced) (o : State) → CanMove plan w → Replaces plan w v → Stands w o → Stands v o
 
 -- a replacement has one result
 abbrev pub OneResult : Type 0

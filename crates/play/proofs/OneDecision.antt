@@ -1,5 +1,5 @@
 -- Words, files and input ask for one thing.
-use Rattle.std.proofs.Common.{◌≡◌, ℕ, Bool, List, [], ◌∷◌, Option, Some, None, Result, Ok, Err, ap, sym, subst, refl, ◌∙◌}
+use Rattle.std.proofs.Common.{◌≡◌, ℕ, Bool, List, [], ◌∷◌, Option, Some, None, Result, Ok, Err, ap, sym, subst, ◌∙◌}
 use Rattle.oc_base.specs.Outside.{Disk}
 use Rattle.oc_base.specs.declared.range.Range.{Range}
 use Rattle.image.specs.Picture.{Picture, IsKept}
@@ -15,7 +15,7 @@ use Rattle.report.specs.declared.answer.ProgramFault.TheVariants as program
 use Rattle.report.specs.declared.writing.Delivery.{Delivery}
 use Rattle.world.specs.Worlds.{Replaced, started}
 use Rattle.world.specs.Runs.{Atom, a_step, a_real_step, a_replacement, IsRun}
-use Rattle.play.specs.Events.{atoms_of, turns, Plays, Played}
+use Rattle.play.specs.Events.{atoms_of, turns, Plays}
 use Rattle.play.specs.Ready.{CanObey, AreReady}
 use Rattle.play.specs.Decision.{region_in, Given, given_by, Builds, IsPlayed, RunsTo, IsRunOfBuilt, Delivers, DecidesFrom, Decides, delivery_of}
 use Rattle.machine.specs.States.{State}
@@ -50,14 +50,14 @@ module _ (laws : Laws) (one : OneResult) where
   one_of_event (Steps h n) hs ks w u v o can at a b = one_of_steps (atoms_of (Steps h n) w) hs ks w u v (steps_are n h) a b
   one_of_event (Real h n) hs ks w u v o can at a b = one_of_steps (atoms_of (Real h n) w) hs ks w u v (reals_are n h) a b
   one_of_event (Till n) hs ks w u v o can at a b = one_of_steps (turns n w) hs ks w u v (turns_are n w) a b
-  one_of_event (Plan plan) hs ks w u v o can at a b = a.4.1 ∙ one plan w a.0 b.0 o can at a.2.1 b.2.1 ∙ sym b.4.1
+  one_of_event (Plan plan) hs ks w u v o can at a b = a.4.1 ∙ one plan w a.0 b.0 o can at a.2.2 b.2.2 ∙ sym b.4.1
 
   one_end : (es : List Event) (hs ks : List ℕ) (w u v : Replaced) (o : State) → AreReady es w → Stands w o → Plays es hs w u → Plays es ks w v → u ≡ v
   one_end [] hs ks w u v o ready at a b = a.1 ∙ sym b.1
   one_end (e ∷ es) hs ks w u v o ready at a b =
       let same : a.0 ≡ b.0 = one_of_event e a.1 b.1 w a.0 b.0 o (can_obey e es w ready) at a.3 b.3 in
-      let next : Stands a.0 (original_run w.image a.1 o) = event_follows laws e a.1 w a.0 o (can_obey e es w ready) a.4 a.3 at in
-      one_end es a.2 b.2 a.0 u v (original_run w.image a.1 o) (ready_next e es w a.0 ready (a.1, a.3)) next a.6 (subst (λ x. Plays es b.2 x v) (sym same) b.6)
+      let next : Stands a.0 (original_run w.image a.1 o) = event_follows laws e a.1 w a.0 o (can_obey e es w ready) a.3 at in
+      one_end es a.2 b.2 a.0 u v (original_run w.image a.1 o) (ready_next e es w a.0 ready (a.1, a.3)) next a.5 (subst (λ x. Plays es b.2 x v) (sym same) b.5)
 
   one_play : (image : Picture) (events : List Event) (input : List ℕ) (shown : Bool) (d e : Result Delivery Ended) → IsKept image → IsPlayed image events input shown d → IsPlayed image events input shown e → d ≡ e
   one_play image events input shown d e kept a b =

@@ -1,5 +1,5 @@
 -- A run whose code is moved is one of the original machine.
-use Rattle.std.proofs.Common.{◌≡◌, ◌≢◌, ℕ, zero, suc, Bool, true, false, not, List, [], ◌∷◌, ◌++◌, length, replicate, refl, sym, ap, subst, ◌∙◌, arith}
+use Rattle.std.proofs.Common.{◌≡◌, ℕ, zero, suc, Bool, true, false, not, List, [], ◌∷◌, ◌++◌, length, replicate, refl, sym, ap, subst, ◌∙◌, arith}
 use Rattle.std.specs.Prelude.{Option, Some, None, ◌==◌, ◌&&◌, is_some, slice_get, sum_by, if◌then◌else◌}
 use Rattle.std.specs.List.{range_with_len}
 use Rattle.std.proofs.lemmas.List.Sums.{sum_by-cons}
@@ -25,11 +25,11 @@ use Rattle.sim_laws.specs.Steps.{original_after, is_layout, stepped}
 use Rattle.sim_laws.proofs.HartLists.{no_left, no_right}
 use Rattle.world.specs.Worlds.{Replaced, kind_of, step_of, code_of}
 use Rattle.world.specs.Runs.{Atom, a_step, a_real_step, a_replacement, IsRun, of_real, real_kind_of, real_step_of, until_real, stretch}
-use Rattle.play.specs.Events.{harts_in, stretched, turns, atoms_of, IsWorld, Plays}
+use Rattle.play.specs.Events.{harts_in, stretched, turns, atoms_of, Plays}
 use Rattle.play.specs.Schedule as original
 use Rattle.play.specs.Ready.{CanObey, AreReady}
 use Rattle.play.proofs.Laws.{Stands, Laws}
-use Rattle.play.proofs.ReadyNext.{SameCode, step_unmoved, real_unmoved, AreSteps, steps_are, reals_are, turns_are, run_unmoved, replaced_image, ready_next, can_obey}
+use Rattle.play.proofs.ReadyNext.{step_unmoved, real_unmoved, AreSteps, steps_are, reals_are, turns_are, run_unmoved, replaced_image, ready_next, can_obey}
 
 -- what the original machine does meanwhile is its run of the harts of the real steps
 meanwhile : (k : Stepped) (p : Picture) (h : ℕ) (o : State) → original_after k p h o ≡ original_run p (of_real k h) o
@@ -112,29 +112,29 @@ module _ (laws : Laws) where
       rw (r.3) (then_follows (real_kind_of h w) h w r.0 v r.1 o same (λ o at. steps_follow more r.1 r.0 v o steps r.4 at) next)
   steps_follow (a_replacement plan ∷ more) hs w v o steps r at = absurd steps
 
-  pub event_follows : (e : Event) (hs : List ℕ) (w v : Replaced) (o : State) → CanObey e w → IsWorld v → IsRun (atoms_of e w) hs w v → Stands w o → Stands v (original_run w.image hs o)
-  event_follows (Steps h n) hs w v o can sound r at = steps_follow (replicate n (a_step h)) hs w v o (steps_are n h) r at
-  event_follows (Real h n) hs w v o can sound r at = steps_follow (replicate n (a_real_step h)) hs w v o (reals_are n h) r at
-  event_follows (Till n) hs w v o can sound r at = steps_follow (turns n w) hs w v o (turns_are n w) r at
-  event_follows (Given plan) hs w v o can sound r at =
+  pub event_follows : (e : Event) (hs : List ℕ) (w v : Replaced) (o : State) → CanObey e w → IsRun (atoms_of e w) hs w v → Stands w o → Stands v (original_run w.image hs o)
+  event_follows (Steps h n) hs w v o can r at = steps_follow (replicate n (a_step h)) hs w v o (steps_are n h) r at
+  event_follows (Real h n) hs w v o can r at = steps_follow (replicate n (a_real_step h)) hs w v o (reals_are n h) r at
+  event_follows (Till n) hs w v o can r at = steps_follow (turns n w) hs w v o (turns_are n w) r at
+  event_follows (Given plan) hs w v o can r at =
       let later : hs ≡ [] = r.3 ∙ r.4.0 in
-      rw (later) (subst (λ x. Stands x o) (sym r.4.1) (laws.replaced plan w r.0 o can (subst IsWorld r.4.1 sound) r.2.1 at))
+      rw (later) (subst (λ x. Stands x o) (sym r.4.1) (laws.replaced plan w r.0 o can r.2.2 at))
 
   -- the image is the same after any event
   event_image : (e : Event) (hs : List ℕ) (w v : Replaced) → IsRun (atoms_of e w) hs w v → v.image ≡ w.image
   event_image (Steps h n) hs w v r = (run_unmoved (replicate n (a_step h)) hs w v (steps_are n h) r).image
   event_image (Real h n) hs w v r = (run_unmoved (replicate n (a_real_step h)) hs w v (reals_are n h) r).image
   event_image (Till n) hs w v r = (run_unmoved (turns n w) hs w v (turns_are n w) r).image
-  event_image (Given plan) hs w v r = ap (λ (x : Replaced). x.image) r.4.1 ∙ replaced_image plan w r.0 r.2.1
+  event_image (Given plan) hs w v r = ap (λ (x : Replaced). x.image) r.4.1 ∙ replaced_image plan w r.0 r.2.2
 
   pub plays_follow : (es : List Event) (hs : List ℕ) (w v : Replaced) (o : State) → AreReady es w → Plays es hs w v → Stands w o → Stands v (original_run w.image hs o)
   plays_follow [] hs w v o ready r at = rw (r.0, r.1) at
   plays_follow (e ∷ es) hs w v o ready r at =
-      let split : original_run w.image hs o ≡ original_run w.image r.2 (original_run w.image r.1 o) = ap (λ x. original_run w.image x o) r.5 ∙ run_append w.image r.1 r.2 o in
+      let split : original_run w.image hs o ≡ original_run w.image r.2 (original_run w.image r.1 o) = ap (λ x. original_run w.image x o) r.4 ∙ run_append w.image r.1 r.2 o in
       let same : r.0.image ≡ w.image = event_image e r.1 w r.0 r.3 in
-      let next : Stands r.0 (original_run w.image r.1 o) = event_follows e r.1 w r.0 o (can_obey e es w ready) r.4 r.3 at in
+      let next : Stands r.0 (original_run w.image r.1 o) = event_follows e r.1 w r.0 o (can_obey e es w ready) r.3 at in
       let rest : Stands v (original_run r.0.image r.2 (original_run w.image r.1 o)) =
-      plays_follow es r.2 r.0 v (original_run w.image r.1 o) (ready_next e es w r.0 ready (r.1, r.3)) r.6 next in
+      plays_follow es r.2 r.0 v (original_run w.image r.1 o) (ready_next e es w r.0 ready (r.1, r.3)) r.5 next in
       rw (split) (subst (λ p. Stands v (original_run p r.2 (original_run w.image r.1 o))) same rest)
 
   -- ---- a run that moves nothing
@@ -217,6 +217,6 @@ module _ (laws : Laws) where
       let first : List ℕ = original.harts_of w.image e o in
       let x : State = original_run w.image first o in
       let one : Plainly w r.0 x = event_plainly e r.1 w r.0 o (omega (arith, sum, none)) r.3 lives at in
-      let two : Plainly r.0 v (original_run r.0.image (original.schedule r.0.image es x) x) = plays_plainly es r.2 r.0 v x (omega (arith, sum, none)) r.6 one.lives one.related in
+      let two : Plainly r.0 v (original_run r.0.image (original.schedule r.0.image es x) x) = plays_plainly es r.2 r.0 v x (omega (arith, sum, none)) r.5 one.lives one.related in
       rw (run_append w.image first (original.schedule w.image es x) o)
       (next_plainly w r.0 v x (original.schedule w.image es x) one (subst (λ p. Plainly r.0 v (original_run r.0.image (original.schedule p es x) x)) one.image two))

@@ -1,12 +1,11 @@
 -- Events that can be done, one after the other.
-use Rattle.std.proofs.Common.{◌≡◌, ◌⊎◌, inl, inr, ℕ, zero, suc, ◌+◌, ◌<◌, ◌≤◌, List, [], ◌∷◌, ◌++◌, replicate, length, drop, get_or, refl, sym, subst, ap, ◌∙◌, arith}
-use Rattle.std.specs.Prelude.{sum_by, true, false, if◌then◌else◌, Bool}
+use Rattle.std.proofs.Common.{◌≡◌, ℕ, zero, suc, ◌+◌, ◌<◌, List, [], ◌∷◌, ◌++◌, replicate, length, drop, get_or, refl, sym, subst, ap, ◌∙◌, arith}
+use Rattle.std.specs.Prelude.{true, false, if◌then◌else◌, Bool}
 use Rattle.std.specs.List.{AllByRecursion}
 use Rattle.std.proofs.lemmas.List.{drop_more}
 use Rattle.std.proofs.lemmas.List.Sums.{sum_by-cons}
 use Rattle.plans.specs.declared.plan.Moved.{Moved}
 use Rattle.image.specs.Picture.{Picture}
-use Rattle.layout.specs.Laid.{Laid}
 use Rattle.sched_log.specs.Script.{plan_count}
 use Rattle.sched_log.specs.Ranges.{AreInRange, IsInRange}
 use Rattle.sched_log.specs.declared.event.Event.{Event}
@@ -14,9 +13,9 @@ use Rattle.sched_log.specs.declared.event.Event.TheVariants.{Steps, Real, Till, 
 use Rattle.sim_laws.specs.Steps.{is_layout}
 use Rattle.world.specs.Worlds.{Replaced, kind_of, step_of, started}
 use Rattle.world.specs.Replacing.{Replaces, over, done, refused}
-use Rattle.world.specs.Runs.{Atom, a_step, a_real_step, a_replacement, Makes, IsRun, stretch, until_real, real_step_of}
+use Rattle.world.specs.Runs.{Atom, a_step, a_real_step, a_replacement, IsRun, stretch, until_real}
 use Rattle.play.specs.Events.{harts_in, stretched, turns, atoms_of, Runs}
-use Rattle.play.specs.Ready.{CanMove, CanObey, AreReady}
+use Rattle.play.specs.Ready.{CanObey, AreReady}
 
 -- image and live layouts are as before
 pub record SameCode (w v : Replaced) : Type 0 where
@@ -105,7 +104,7 @@ ready_next (Real h n) es w u ready r = still_ready (Real h n) es w u ready refl 
 ready_next (Till n) es w u ready r = still_ready (Till n) es w u ready refl (run_unmoved (turns n w) r.0 w u (turns_are n w) r.1)
 ready_next (Given plan) es w u ready r =
     let run : IsRun (a_replacement plan ∷ []) r.0 w u = r.1 in
-    let same : u.image ≡ w.image = ap (λ (x : Replaced). x.image) run.4.1 ∙ replaced_image plan w run.0 run.2.1 in
+    let same : u.image ≡ w.image = ap (λ (x : Replaced). x.image) run.4.1 ∙ replaced_image plan w run.0 run.2.2 in
     let sum = sum_by-cons plan_count (Given plan) es in
     let few = ready.few in
     record {

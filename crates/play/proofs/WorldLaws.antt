@@ -1,5 +1,5 @@
 -- The laws of a world.
-use Rattle.std.proofs.Common.{◌≡◌, ◌≢◌, ℕ, zero, suc, Bool, true, false, List, [], ◌∷◌, Ok, Err, refl, sym, ap, subst, ◌∙◌, is_some}
+use Rattle.std.proofs.Common.{◌≡◌, ℕ, zero, suc, Bool, true, false, List, [], ◌∷◌, refl, sym, ap, subst, ◌∙◌, is_some}
 use Rattle.std.specs.Prelude.{if◌then◌else◌}
 use Rattle.image.specs.Picture.{Picture, IsKept}
 use Rattle.guest_sys.specs.State.{IsOrderly}
@@ -18,12 +18,8 @@ use Rattle.world.specs.Worlds.{Replaced, Related, started, kind_of, step_of, cod
 use Rattle.world.specs.Replacing.{IsReplaced, Replaces, over, done, refused}
 use Rattle.world.specs.Runs.{until_real, real_kind_of, real_step_of}
 use Rattle.world.proofs.Following.{step_follows, never_layout, real_over, real_follows}
-use Rattle.world.proofs.Replacement.{attempt_related}
+use Rattle.world.proofs.Running.{replaces_related}
 use Rattle.world.proofs.Starting.{started_related}
-use Rattle.sched_log.specs.declared.facts.Refusal.{Refusal}
-use Rattle.sched_log.specs.declared.facts.Refusal.TheVariants as refusal
-use Rattle.play.specs.Events.{IsWorld}
-use Rattle.play.specs.Ready.{CanMove}
 use Rattle.play.proofs.Laws.{Stands, Laws, OneResult}
 use Rattle.play.proofs.OneReplacement.{MadeSmall, one_replacement}
 
@@ -74,22 +70,13 @@ texts_of w o at =
     let sound = at.related.sound in
     are_texts w.text w.image.texts sound.placed.text (record { fit = sound.kept.texts_fit; rise = sound.kept.texts_rise })
 
--- a replacement leaves the original machine where it was
-replaced_law : (plan : List Moved) (w v : Replaced) (o : State) → CanMove plan w → IsWorld v → Replaces plan w v → Related w o → Related v o
-replaced_law plan w v o can sound (over ended is) at = attempt_related plan w v true (Ok tt) can.alone sound is o at
-replaced_law plan w v o can sound (done goes is) at = attempt_related plan w v false (Ok tt) can.alone sound is o at
-replaced_law plan w v o can sound (refused (refusal.RegionFull n m) room goes why is) at = attempt_related plan w v false (Err (refusal.RegionFull n m)) can.alone sound (why, is) o at
-replaced_law plan w v o can sound (refused (refusal.BranchReach a t) room goes why is) at = attempt_related plan w v false (Err (refusal.BranchReach a t)) can.alone sound (why, is) o at
-replaced_law plan w v o can sound (refused (refusal.Unreadable g y) room goes why is) at = attempt_related plan w v false (Err (refusal.Unreadable g y)) can.alone sound (why, is) o at
-replaced_law plan w v o can sound (refused refusal.NoMemory room goes why is) at = absurd (room refl)
-
 pub laws : Laws
 laws = record {
   start = start_law;
   step = step_law;
   real = real_law;
-  replaced = λ plan w v o can sound is at. record {
-    related = replaced_law plan w v o can sound is at.related;
+  replaced = λ plan w v o can is at. record {
+    related = replaces_related plan w v o can.fine can.alone is at.related;
     orderly = subst (λ m. IsOrderly m.system) (sym (replaced_machine plan w v is)) at.orderly;
   };
 }

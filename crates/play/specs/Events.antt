@@ -3,7 +3,7 @@ use Rattle.std.specs.Prelude.{◌≡◌, ℕ, zero, suc, List, [], ◌∷◌, �
 use Rattle.std.specs.List.{range_with_len}
 use Rattle.sched_log.specs.declared.event.Event.{Event}
 use Rattle.sched_log.specs.declared.event.Event.TheVariants.{Steps, Real, Till, Given}
-use Rattle.world.specs.Worlds.{Replaced, IsSound}
+use Rattle.world.specs.Worlds.{Replaced}
 use Rattle.world.specs.Runs.{Atom, a_step, a_real_step, a_replacement, real_step_of, stretch, IsRun}
 
 -- the harts that are there, ascending
@@ -27,15 +27,11 @@ atoms_of (Real h n) w = replicate n (a_real_step h)
 atoms_of (Till n) w = turns n w
 atoms_of (Given plan) w = a_replacement plan ∷ []
 
--- a world keeps what each world keeps: among the rest, its code renders the image
-abbrev pub IsWorld : Replaced → Type 0
-IsWorld w = IsSound w.image w.text w.lives w.numbers w.free
-
 -- the world v is w after these events in turn, and these are the harts of the real steps
 abbrev pub Plays : List Event → List ℕ → Replaced → Replaced → Type 0
 Plays [] hs w v = (hs ≡ []) × (v ≡ w)
 Plays (e ∷ es) hs w v =
-    (u : Replaced) × (first : List ℕ) × (later : List ℕ) × IsRun (atoms_of e w) first w u × IsWorld u × (hs ≡ first ++ later) × Plays es later u v
+    (u : Replaced) × (first : List ℕ) × (later : List ℕ) × IsRun (atoms_of e w) first w u × (hs ≡ first ++ later) × Plays es later u v
 
 -- for some harts
 abbrev pub Runs : List Atom → Replaced → Replaced → Type 0

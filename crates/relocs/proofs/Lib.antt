@@ -1,5 +1,6 @@
 pub mod AimLemmas
 pub mod CoverLemmas
+pub mod DistinctLemmas
 pub mod FunctionLemmas
 pub mod Regional
 pub mod RuleLemmas

@@ -21,7 +21,7 @@ use crate::region::default_region;
 use crate::rules::{pairs, sites};
 use crate::slots::slots;
 use crate::texts::sort_texts;
-use elf_read::elf::{Elf, Segment};
+use elf_read::elf::{Elf, Executable, Segment};
 use image::picture::Image;
 use image::ranges::{Func, Part, TextRange};
 use oc_base::fault::NoMemory;
@@ -102,8 +102,9 @@ fn image_of(
     ensures { IfOk result (IsImage elf.now region) }
 {
     let segments = elf.segments.as_slice();
-    let symbols = elf.symbols.as_slice();
-    let relocs = elf.relocs.as_slice();
+    let symbols = &elf.symbols;
+    let entries = elf.relocs.distinct(alloc)?;
+    let relocs = entries.as_slice();
     let lines = texts.as_slice();
     text_laws(elf, lines, region);
     let parts = sorted_parts(alloc, segments, lines)?;
@@ -137,13 +138,18 @@ fn region_of(elf: &Elf, region: Option<Range>) -> Range
 ///
 /// The region's ends are multiples of 4096. Without one it has 524288 bytes and begins 4096 past the highest end of a
 /// segment, which is rounded up to 4096 first.
-pub fn build_image(alloc: Global, elf: &Elf, region: Option<Range>) -> Result<Image, ImageFault>
-    requires whole { IsWhole elf.now }
-    requires pages { IfSome region IsPaged }
+pub fn build_image(
+    alloc: Global,
+    elf: &Executable,
+    region: Option<Range>,
+) -> Result<Image, ImageFault>
+    requires { IfSome region IsPaged }
     ensures none { OnOk result (fault_of elf.now (region_of elf.now region) ≡ None) }
     ensures image { IfOk result (IsImage elf.now (region_of elf.now region)) }
     ensures fault { IfErr result (λ e. e ≢ WantOfMemory → fault_of elf.now (region_of elf.now region) ≡ Some e) }
 {
+    elf.kept();
+    let elf = elf.parts();
     let region = region_of(elf, region);
     let mut texts = checked_texts(alloc, elf, region)?;
     sort_texts(&mut texts);

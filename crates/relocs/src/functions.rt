@@ -9,7 +9,7 @@ ghost use Rattle.image.specs.Texts.{text_end};
 ghost use Rattle.image.specs.Picture.{IsText};
 ghost use Rattle.relocs.specs.Functions.{holds, is_code, is_function, symbol_end, greater, end_at, func_entry};
 
-use elf_read::elf::Symbol;
+use elf_read::elf::{Symbol, Symbols};
 use image::ranges::{Func, TextRange};
 use image::texts::text_at;
 use oc_base::fault::NoMemory;
@@ -77,15 +77,16 @@ fn note(ends: &mut BTreeMap<u64, u64>, texts: &[TextRange], s: &Symbol) -> Resul
 fn ends(
     alloc: Global,
     texts: &[TextRange],
-    symbols: &[Symbol],
+    symbols: &Symbols,
 ) -> Result<BTreeMap<u64, u64>, NoMemory>
     requires fit { All IsText texts.now }
     requires rise { AllPairs (λ s t. text_end s ≤ t.from) texts.now }
     ensures { IfOk result (λ m. (q : ℕ) → get nat_cmp m q ≡ end_at texts.now symbols.now q) }
 {
     let mut ends = BTreeMap::new(alloc);
-    for s in symbols {
-        note(&mut ends, texts, s)?;
+    for i in 0..symbols.len() {
+        let s = symbols.at(i);
+        note(&mut ends, texts, &s)?;
     }
     Ok(ends)
 }
@@ -108,7 +109,7 @@ fn listed(alloc: Global, ends: &BTreeMap<u64, u64>) -> Result<Vec<Func>, NoMemor
 pub fn functions(
     alloc: Global,
     texts: &[TextRange],
-    symbols: &[Symbol],
+    symbols: &Symbols,
 ) -> Result<Vec<Func>, NoMemory>
     requires fit { All IsText texts.now }
     requires rise { AllPairs (λ s t. text_end s ≤ t.from) texts.now }

@@ -13,7 +13,7 @@ ghost use Rattle.relocs.specs.Named.{is_table, is_tabled, is_kept, is_stored, ai
 
 use crate::aims::{Rule, aims};
 use crate::cover::{is_held, sort_by_start, tops};
-use elf_read::elf::Symbol;
+use elf_read::elf::{Symbol, Symbols};
 use elf_read::tables::Reloc;
 use image::funcs::func_from;
 use image::ranges::{Aim, Func, Part};
@@ -87,17 +87,18 @@ fn slot_at(parts: &[Part], funcs: &[Func], at: u64) -> Option<u32>
 fn is_table(s: &Symbol) -> bool
     ensures { result ≡ is_table s.now }
 {
-    s.info % 16 == 1 && s.name.as_slice().starts_with(b"_ZTV")
+    s.info % 16 == 1 && s.name.starts_with(b"_ZTV")
 }
 
 /// The ranges of the virtual tables.
 #[tactic(auto, using(finite::proofs::Filtered::map_filter_more))]
-fn table_ranges(alloc: Global, symbols: &[Symbol]) -> Result<Vec<(u64, u64)>, NoMemory>
+fn table_ranges(alloc: Global, symbols: &Symbols) -> Result<Vec<(u64, u64)>, NoMemory>
     ensures { IfOk result (λ v. v.items ≡ map table_range (filter is_table symbols.now)) }
 {
     let mut ranges = Vec::new(alloc);
-    for s in symbols {
-        if is_table(s) {
+    for i in 0..symbols.len() {
+        let s = symbols.at(i);
+        if is_table(&s) {
             ranges.push((s.value, s.value.saturating_add(s.size)))?;
         }
     }
@@ -107,7 +108,7 @@ fn table_ranges(alloc: Global, symbols: &[Symbol]) -> Result<Vec<(u64, u64)>, No
 /// The ranges of virtual tables by their starts, and the greatest end so far at each.
 #[derive(Drop)]
 struct Tables<'a> {
-    symbols: &'a [Symbol],
+    symbols: &'a Symbols,
     ranges: Vec<(u64, u64)>,
     tops: Vec<u64>,
     ghost sorted: { IsNonDecreasingBy start_of ranges.items },
@@ -116,7 +117,7 @@ struct Tables<'a> {
     ghost same: { (a : ℕ) → a + 8 < 2 ^ 64 → is_tabled symbols.now a ≡ is_held ranges.items a (a + 8) },
 }
 
-fn tables_of(alloc: Global, symbols: &[Symbol]) -> Result<Tables<'_>, NoMemory>
+fn tables_of(alloc: Global, symbols: &Symbols) -> Result<Tables<'_>, NoMemory>
     ensures { IfOk result (λ t. t.symbols.now ≡ symbols.now) }
 {
     let mut ranges = table_ranges(alloc, symbols)?;
@@ -153,14 +154,14 @@ fn is_kept(parts: &[Part], at: u64, s: &Symbol) -> bool
     }
 }
 
-fn names_kept(parts: &[Part], symbols: &[Symbol], r: &Reloc) -> bool
+fn names_kept(parts: &[Part], symbols: &Symbols, r: &Reloc) -> bool
     requires fit { All IsPart parts.now }
     requires rise { AllPairs (λ s t. s.range.to ≤ t.range.from) parts.now }
     ensures is { result ≡ option_map_or (is_kept parts.now r.now.at) (slice_get symbols.now r.now.symbol) false }
     ensures low { OnTrue result (r.now.at < 0x08000000) }
 {
     match symbols.get(r.symbol as usize) {
-        Some(s) => is_kept(parts, r.at, s),
+        Some(s) => is_kept(parts, r.at, &s),
         None => false,
     }
 }
@@ -205,7 +206,7 @@ pub fn slots(
     alloc: Global,
     parts: &[Part],
     funcs: &[Func],
-    symbols: &[Symbol],
+    symbols: &Symbols,
     relocs: &[Reloc],
 ) -> Result<Vec<Aim>, NoMemory>
     requires fit { All IsPart parts.now }

@@ -7,6 +7,7 @@ use std::marker::Model;
 /// A register, `x0` to `x31`.
 #[derive(Clone, Copy, Debug, PartialEq, Eq)]
 pub struct Reg {
+    // as wide as the immediates beside it in an instruction, which then needs no packing
     number: u32,
 }
 
@@ -49,6 +50,7 @@ impl Reg {
 /// How many places a shift moves its operand.
 #[derive(Clone, Copy, Debug, PartialEq, Eq)]
 pub struct Shift {
+    // as wide as a register's number, for the same reason
     amount: u32,
 }
 

@@ -12,7 +12,7 @@ use Rattle.texts.specs.Texts.{lines_of}
 use Rattle.image.specs.Picture.{Picture}
 use Rattle.sched_log.specs.Lines.{line_of}
 use Rattle.sched_log.specs.Script.{when, first_of, is_end, count_of, plans_of, event_of, kind_of, fault_at, no_end, script, fault_of, events_of}
-use Rattle.sched_log.specs.declared.fault.TheConstants.{NO_END}
+use Rattle.sched_log.specs.Limits.{end_missing}
 use Rattle.sched_log.specs.declared.line.Line.{Line}
 use Rattle.sched_log.specs.declared.line.Line.TheVariants.{Passed}
 use Rattle.sched_log.specs.declared.event.Event.{Event}
@@ -22,7 +22,7 @@ use Rattle.sched_log.specs.declared.fault.ScriptFault.TheVariants as fault
 -- The first fault of lines that stand after others: given the number of the next line, whether an end stands before it,
 -- how many plans stand before it, and what the counts before it sum to
 abbrev pub faults_from : ℕ → Bool → (plans sum : ℕ) → List Line → Option ScriptFault
-faults_from n ended plans sum [] = when (not ended) (fault.Line n NO_END)
+faults_from n ended plans sum [] = when (not ended) (fault.Line n end_missing)
 faults_from n ended plans sum (l ∷ ls) = option_or
     (option_map (λ kind. fault.Line n kind) (kind_of ended (plans + plans_of l) (sum + count_of l) l))
     (faults_from (n + 1) (ended || is_end l) (plans + plans_of l) (sum + count_of l) ls)
@@ -83,7 +83,7 @@ fault_later p bytes text rest line n ended plans sum lines is fine =
     next_line p bytes text rest n ended plans sum lines ∙ rw here (ap (λ l. faults_from (n + 1) (ended || is_end l) (plans + plans_of l) (sum + count_of l) (script p rest)) (sym is))
 
 -- behind the last line
-pub fault_done : (p : Picture) (bytes : List ℕ) (n : ℕ) (ended : Bool) (plans sum : ℕ) → length bytes ≡ 0 → faults_from n ended plans sum (script p bytes) ≡ when (not ended) (fault.Line n NO_END)
+pub fault_done : (p : Picture) (bytes : List ℕ) (n : ℕ) (ended : Bool) (plans sum : ℕ) → length bytes ≡ 0 → faults_from n ended plans sum (script p bytes) ≡ when (not ended) (fault.Line n end_missing)
 unfolding script lines_of
 fault_done p [] n ended plans sum none = refl
 fault_done p (b ∷ bs) n ended plans sum none = absurd (omega (arith, none))

@@ -5,8 +5,7 @@ use Rattle.image.specs.Picture.{Picture}
 use Rattle.plans.specs.declared.plan.Moved.{Moved}
 use Rattle.plans.specs.Given.{plan_fault}
 use Rattle.sched_log.specs.Script.{count, plan_count}
-use Rattle.sched_log.specs.declared.line.TheConstants.{LAST_HART}
-use Rattle.sched_log.specs.declared.read.TheConstants.{COUNT_LIMIT, PLAN_LIMIT}
+use Rattle.sched_log.specs.Limits.{last_hart, count_limit, plan_limit}
 use Rattle.sched_log.specs.declared.event.Event.{Event}
 use Rattle.sched_log.specs.declared.event.Event.TheVariants.{Steps, Real, Till, Given}
 use Rattle.sched_log.specs.declared.line.Line.{Line}
@@ -14,8 +13,8 @@ use Rattle.sched_log.specs.declared.line.Line.TheVariants.{Does}
 
 -- an event that a line can ask for; a plan is one of the image, and moves something
 abbrev pub IsInRange : Picture → Event → Type 0
-IsInRange p (Steps h n) = (h ≤ LAST_HART) × (n < 2 ^ 32)
-IsInRange p (Real h n) = (h ≤ LAST_HART) × (n < 2 ^ 32)
+IsInRange p (Steps h n) = (h ≤ last_hart) × (n < 2 ^ 32)
+IsInRange p (Real h n) = (h ≤ last_hart) × (n < 2 ^ 32)
 IsInRange p (Till n) = n < 2 ^ 32
 IsInRange p (Given parts) = (0 < length parts) × (plan_fault p parts ≡ None)
 
@@ -35,5 +34,5 @@ IsShort _ = ⊤
 -- events that a script can ask for
 pub record AreInRange (p : Picture) (events : List Event) : Type 0 where
   pub each : AllByRecursion (IsInRange p) events
-  pub sum : sum_by count events ≤ COUNT_LIMIT
-  pub plans : sum_by plan_count events ≤ PLAN_LIMIT
+  pub sum : sum_by count events ≤ count_limit
+  pub plans : sum_by plan_count events ≤ plan_limit

@@ -5,8 +5,7 @@ use Rattle.std.specs.Option.{option_map}
 use Rattle.texts.specs.Texts.{lines_of}
 use Rattle.sched_log.specs.Lines.{line_of}
 use Rattle.image.specs.Picture.{Picture}
-use Rattle.sched_log.specs.declared.fault.TheConstants.{WRONG_FORM, NO_END, AFTER_END, PAST_LIMIT}
-use Rattle.sched_log.specs.declared.read.TheConstants.{COUNT_LIMIT, PLAN_LIMIT}
+use Rattle.sched_log.specs.Limits.{wrong_form, end_missing, after_end, past_limit, count_limit, plan_limit}
 use Rattle.sched_log.specs.declared.event.Event.{Event}
 use Rattle.sched_log.specs.declared.event.Event.TheVariants.{Steps, Real, Till, Given}
 use Rattle.sched_log.specs.declared.line.Line.{Line}
@@ -66,9 +65,9 @@ first_of (Some x ∷ rest) = Some x
 unfoldable pub kind_of : Bool → (plans sum : ℕ) → Line → Option ℕ
 kind_of ended plans sum line = first_of (
     own_fault line
-    ∷ when (nat_lt PLAN_LIMIT plans) WRONG_FORM
-    ∷ when (ended && is_command line) AFTER_END
-    ∷ when (nat_lt COUNT_LIMIT sum) PAST_LIMIT
+    ∷ when (nat_lt plan_limit plans) wrong_form
+    ∷ when (ended && is_command line) after_end
+    ∷ when (nat_lt count_limit sum) past_limit
     ∷ [])
 
 -- the fault of the line at place i, counted from 0
@@ -78,7 +77,7 @@ fault_at lines i = option_map (λ kind. fault.Line (i + 1) kind)
 
 -- the want of an end, which counts as a fault behind the last line
 abbrev pub no_end : List Line → Option ScriptFault
-no_end lines = when (not (list_any is_end lines)) (fault.Line (length lines + 1) NO_END)
+no_end lines = when (not (list_any is_end lines)) (fault.Line (length lines + 1) end_missing)
 
 -- the first fault of lines
 abbrev pub fault_in : List Line → Option ScriptFault

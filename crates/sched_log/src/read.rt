@@ -2,6 +2,7 @@
 
 ghost use Rattle.std.specs.Prelude.{◌≡◌, ◌≢◌, ◌+◌, ◌≤◌, ◌++◌, None, Some, IfErr, IfOk, OnOk};
 ghost use Rattle.std.specs.Option.{IfNone};
+ghost use Rattle.sched_log.specs.Limits.{count_limit, plan_limit};
 ghost use Rattle.sched_log.specs.Script.{is_end, is_command, count_of, plans_of, event_of, kind_of, fault_of, events_of};
 ghost use Rattle.sched_log.specs.Ranges.{AreInRange};
 ghost use Rattle.sched_log.specs.declared.fault.ScriptFault.TheVariants.{NoMemory as Full};
@@ -57,11 +58,11 @@ fn plans_of(line: &Line) -> u64
 /// `sum` is that of the counts before it.
 #[tactic(auto, unfolding(crate::specs::Script::kind_of))]
 fn kind_of(ended: bool, plans: u64, sum: u64, line: &Line) -> Option<u8>
-    requires plans { plans ≤ PLAN_LIMIT }
-    requires sum { sum ≤ COUNT_LIMIT }
+    requires plans { plans ≤ plan_limit }
+    requires sum { sum ≤ count_limit }
     ensures kind { result ≡ kind_of ended (plans + plans_of line.now) (sum + count_of line.now) line.now }
-    ensures few { IfNone result (plans + plans_of line.now ≤ PLAN_LIMIT) }
-    ensures small { IfNone result (sum + count_of line.now ≤ COUNT_LIMIT) }
+    ensures few { IfNone result (plans + plans_of line.now ≤ plan_limit) }
+    ensures small { IfNone result (sum + count_of line.now ≤ count_limit) }
 {
     if let Line::Wrong(kind) = line {
         return Some(*kind);

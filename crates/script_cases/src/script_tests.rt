@@ -1,11 +1,13 @@
 //! Scripts with what they are read as. What is wanted was told by an independent implementation, but for what this project alone has:
 //! commands that are to come, two spaces and `/` in a plan, and a second plan.
 
-use crate::guests::{COUNTDOWN, ZERO_WORD, image_of};
+use cases::images::image_of;
+use cases::orders::plan_text;
 use image::picture::Image;
+use sched_log::event::Event;
 use sched_log::read::read_script;
 use sched_log::write::write_log;
-use std::alloc::Global;
+use std::alloc::{AllocError, Global};
 use std::test::Fail;
 
 /// A script, in which `|` stands for a newline, and what it asks for in the words of the shortest such script, or its
@@ -170,10 +172,10 @@ replace 1:0 0|end => line 1 fault 4
 replace 1:0; 1:0|end => line 1 fault 4";
 
 /// The text with a newline for each `|`.
-fn lines(alloc: Global, text: &str) -> Result<Vec<u8>, Fail> {
+fn lines(alloc: Global, text: &str) -> Result<Vec<u8>, AllocError> {
     let mut bytes = Vec::new(alloc);
-    for byte in text.as_bytes() {
-        bytes.push(if *byte == b'|' { b'\n' } else { *byte })?;
+    for byte in text.bytes() {
+        bytes.push(if byte == b'|' { b'\n' } else { byte })?;
     }
     Ok(bytes)
 }
@@ -187,48 +189,71 @@ fn told(alloc: Global, image: &Image, script: &[u8]) -> Result<Vec<u8>, Fail> {
 }
 
 /// The first case of a guest that is read as something else than is wanted.
-fn first_wrong<'a>(alloc: Global, guest: &str, cases: &'a str) -> Result<Option<&'a str>, Fail> {
+fn first_wrong(alloc: Global, guest: &str, cases: &str) -> Result<String, Fail> {
     let image = image_of(alloc, guest)?;
     for case in cases.lines() {
         let (script, wanted) = case.split_once(" => ").unwrap_or(("", ""));
         let found = told(alloc, &image, &lines(alloc, script)?)?;
         if found != lines(alloc, wanted)? {
-            return Ok(Some(case));
+            return Ok(String::from_str(alloc, case)?);
         }
     }
-    Ok(None)
+    Ok(String::new(alloc))
 }
 
 #[test]
 fn scripts_are_read_as_their_events_or_their_first_fault(rt: HostRuntime) -> Result<(), Fail> {
-    assert_eq!(rt; first_wrong(rt.alloc(), COUNTDOWN, SCRIPTS)?, None);
+    assert_eq!(rt; first_wrong(rt.alloc(), "countdown", SCRIPTS)?.as_str(), "");
     Ok(())
 }
 
 #[test]
 fn plans_are_read_as_they_are_or_as_their_first_fault(rt: HostRuntime) -> Result<(), Fail> {
-    assert_eq!(rt; first_wrong(rt.alloc(), COUNTDOWN, PLANS)?, None);
+    assert_eq!(rt; first_wrong(rt.alloc(), "countdown", PLANS)?.as_str(), "");
     Ok(())
 }
 
 #[test]
 fn a_function_without_blocks_takes_any_order(rt: HostRuntime) -> Result<(), Fail> {
-    assert_eq!(rt; first_wrong(rt.alloc(), ZERO_WORD, ANY_ORDERS)?, None);
+    assert_eq!(rt;
+        first_wrong(rt.alloc(), "zero word", ANY_ORDERS)?.as_str(),
+        ""
+    );
     Ok(())
+}
+
+fn event_text(alloc: Global, event: &Event) -> Result<String, AllocError> {
+    match event {
+        Event::Steps { h, n } => format!(in alloc; "{n} steps of {h}"),
+        Event::Real { h, n } => format!(in alloc; "{n} real steps of {h}"),
+        Event::Till { n } => format!(in alloc; "{n} turns"),
+        Event::Given(plan) => plan_text(alloc, plan),
+    }
+}
+
+/// What the events of a script are.
+fn events_text(alloc: Global, script: &str) -> Result<String, Fail> {
+    let image = image_of(alloc, "countdown")?;
+    let Ok(events) = read_script(alloc, &image, &lines(alloc, script)?) else {
+        return Err(Fail::new("no events"));
+    };
+    let mut text = String::new(alloc);
+    for event in events.as_slice() {
+        text.push_str(&event_text(alloc, event)?)?;
+        text.push_str(", ")?;
+    }
+    Ok(text)
 }
 
 #[test]
 fn each_command_is_its_event(rt: HostRuntime) -> Result<(), Fail> {
-    let alloc = rt.alloc();
-    let image = image_of(alloc, COUNTDOWN)?;
-    let script = b"steps 1 2\nreal 3 4\ntill 5\nreplace 1:2 0 1\nend\n";
-    let events = read_script(alloc, &image, script)?;
-    let events = events.as_slice();
-    let text = format!(in alloc; "{events:?}")?;
     assert_eq!(rt;
-        text.as_str(),
-        "[Steps { h: 1, n: 2 }, Real { h: 3, n: 4 }, Till { n: 5 }, \
-Given(Plan { parts: Items { items: [Moved { func: 1, order: Items { items: [2, 0, 1] } }] } })]"
+        events_text(
+            rt.alloc(),
+            "steps 1 2|real 3 4|till 5|replace 0:0; 1:2 0 1|end|"
+        )?
+        .as_str(),
+        "2 steps of 1, 4 real steps of 3, 5 turns, 0:0; 1:2 0 1, "
     );
     Ok(())
 }

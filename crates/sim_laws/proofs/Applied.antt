@@ -20,13 +20,13 @@ use Rattle.machine.specs.States.{State}
 use Rattle.machine.specs.Steps.{ended, with_hart, fault_of_jump, jumped_unless, after_effect, by_answer, call_of, called}
 use Rattle.sim_laws.specs.Origins.{origin}
 use Rattle.sim_laws.specs.Codes.{IsCodeOf}
-use Rattle.sim_laws.specs.Related.{Lands, ValuesRelated, RegsRelated, HartsRelated, is_waiting, StatesRelated}
+use Rattle.sim_laws.specs.Related.{Lands, ValuesRelated, RegsRelated, HartsRelated, StatesRelated}
 use Rattle.sim_laws.proofs.Lands.{origin_lands}
 use Rattle.sim_laws.proofs.EffectPairs.{EffectsRelated, both_next, both_write, both_jump, jump_next, next_jump, both_call, both_trap, both_use, Follows}
 use Rattle.sim_laws.proofs.HartLists.{hart_at, get_set, set_both}
 use Rattle.sim_laws.proofs.GoingOn.{regs_written, lands_alike, next_hart}
-use Rattle.sim_laws.proofs.Settled.{waiting_kept, waits_set, unaffected, next_after, jump_after, no_fault, moved_on, ended_related}
-use Rattle.sim_laws.proofs.Written.{waits_written, written_related}
+use Rattle.sim_laws.proofs.Settled.{waiting_kept, status_set, unaffected, next_after, jump_after, no_fault, moved_on, ended_related}
+use Rattle.sim_laws.proofs.Written.{status_written, written_related}
 use Rattle.sim_laws.proofs.Called.{called_related}
 use Rattle.sim_laws.proofs.MemoryLaws.{stored_related}
 use Rattle.sim_laws.proofs.Jumped.{IsAt, harts_of, places_of, both_as, jumped_hart, jumps_applied}
@@ -87,7 +87,7 @@ module _ (p : Picture) (c : Code) where
         let rs = slice_set r.harts h x in
         let os = slice_set o.harts h y in
         let harts = set_both r.harts o.harts h x y (next_related rd v w held (harts_of p c k) k.regs f values) k.states.harts in
-        let still = waits_set o.harts h y (λ e. ap is_waiting (status_after rd w held ho ∙ status_in) ∙ e) in
+        let still = status_set o.harts h y (status_after rd w held ho ∙ status_in) in
         both_as p c _ _ _ _
         (write_after (origin c) p h i at width a rd v held r hr k.replaced)
         (write_after (λ a. a) p h j at width b rd w held o ho k.original)
@@ -96,7 +96,7 @@ module _ (p : Picture) (c : Code) where
           system = k.states.system;
           memory = stored_related p c is_kept is at width aligned stored_values k.states.memory;
           harts = written_related p c h (block_of at) x y rs os (get_set r.harts h hr x k.replaced) (get_set o.harts h ho y k.original) harts;
-          waiting = waiting_kept o.system.waiting o.harts (written_by h (block_of at) os) (λ q e. waits_written h (block_of at) os q (still q e)) k.states.waiting;
+          waiting = waiting_kept o.system.waiting o.harts (written_by h (block_of at) os) (λ q. status_written h (block_of at) os q ∙ still q) k.states.waiting;
         })
 
     -- one of them jumps, and the other goes on

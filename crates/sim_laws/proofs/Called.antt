@@ -13,6 +13,7 @@ use Rattle.hart.specs.declared.hart.Hart.{Hart}
 use Rattle.hart.specs.declared.hart.Status.{Status}
 use Rattle.hart.specs.declared.hart.Status.TheVariants.{Live, Waiting, Ended}
 use Rattle.hart.specs.Harts.{reg, with_reg}
+use Rattle.guest_sys.specs.declared.state.Waiter.{Waiter}
 use Rattle.guest_sys.specs.declared.effect.Reply.{Reply}
 use Rattle.guest_sys.specs.declared.effect.Reply.TheVariants as reply
 use Rattle.guest_sys.specs.State as system
@@ -20,11 +21,11 @@ use Rattle.guest_sys.specs.Calls.{Change, put_at, map_zero, give_rights, Done, a
 use Rattle.layout.specs.declared.point.Point.TheVariants.{Mid}
 use Rattle.layout.specs.Points.{Code, StandsFor, at_start, at_hop}
 use Rattle.machine.specs.declared.outcome.Outcome.TheVariants.{Exit, LinkUse}
-use Rattle.machine.specs.Harts.{is_live, has_ended, hart_in, is_in, unreserved, written_in, awake, woken, answered, stopped, with_thread, child_of, replied}
+use Rattle.machine.specs.Harts.{is_live, has_ended, hart_in, is_in, unreserved, written_in, awake, woken, waiting_at, waiting_as, answered, stopped, with_thread, child_of, replied}
 use Rattle.machine.specs.States.{State}
 use Rattle.machine.specs.Steps.{arguments_of, call_of, end_by, called}
 use Rattle.sim_laws.specs.Origins.{origin}
-use Rattle.sim_laws.specs.Related.{Both, Lands, ValuesRelated, both_plain, both_links, MemoriesRelated, RegsRelated, PlacesRelated, whole, half, HartsRelated, is_waiting, StatesRelated}
+use Rattle.sim_laws.specs.Related.{Both, Lands, ValuesRelated, both_plain, both_links, MemoriesRelated, RegsRelated, PlacesRelated, whole, half, GoOnAlike, HartsRelated, is_waiting, StatesRelated}
 use Rattle.sim_laws.proofs.Lands.{plain_related}
 use Rattle.sim_laws.proofs.EffectPairs.{Follows}
 use Rattle.sim_laws.proofs.HartLists.{no_left, no_right, found_both, set_both, push_both, all_same, hart_at}
@@ -33,15 +34,10 @@ use Rattle.sim_laws.proofs.Written.{hart_map, unreserved_related, ranges_related
 use Rattle.sim_laws.proofs.Jumped.{IsAt, harts_of}
 use Rattle.sim_laws.proofs.Asked.{AskAlike, asked_same}
 use Rattle.sim_laws.proofs.Fair.{IsWhole, is_end, IsFair, asked_fair, ends_alike}
-use Rattle.sim_laws.proofs.Woken.{WaitsIn, hart_other, hart_set, waits_written_in, AreWoken, queue_kept, queue_woken}
+use Rattle.sim_laws.proofs.Woken.{WaitsIn, hart_other, hart_set, status_written_in, AreWoken, AreListed, found_waiting, listed_tail, now_waiting, queue_kept, queue_listed, queue_woken}
 use Rattle.sim_laws.proofs.MemoryLaws.{seen_same, put_related, mapped_related, rights_related}
 
 -- ---- one hart of a list
-waiting_at : (hs : List Hart) (k : ℕ) → WaitsIn hs k → slice_get hs k ≡ Some (hart_in hs k)
-waiting_at [] k e = absurd (cc)
-waiting_at (y ∷ ys) zero e = refl
-waiting_at (y ∷ ys) (suc k) e = waiting_at ys k e
-
 waiting_goes_on : (s : Status) → is_waiting s ≡ true → (has_ended s ≡ false) × (is_live s ≡ false)
 waiting_goes_on Live e = absurd (cc)
 waiting_goes_on (Waiting at) e = (refl, refl)
@@ -101,9 +97,42 @@ module _ (p : Picture) (c : Code) where
       let x = awake (hart_in rs k) in
       let y = awake (hart_in os k) in
       woken_related ks (slice_set rs k x) (slice_set os k y)
-      (set_both rs os k x y (awake_related (hart_in rs k) (hart_in os k) (hart_both rs os k (hart_in os k) (waiting_at os k here) b) here) b)
+      (set_both rs os k x y (awake_related (hart_in rs k) (hart_in os k) (hart_both rs os k (hart_in os k) (found_waiting os k here) b) here) b)
       (λ i d l. ap (λ (z : Hart). is_waiting z.status) (hart_other os k (get_or ks i d) y (λ e. once 0 (suc i) d (omega arith) (omega arith) (sym e))) ∙ All-tail (WaitsIn os) k ks w i d l)
       (λ i j d l m. once (suc i) (suc j) d (omega arith) (omega arith))
+
+  -- ---- a waiting hart that waits at an address
+  waiting_alike : (at : ℕ) (r o : Hart) → is_live o.status ≡ false → GoOnAlike p c r o → GoOnAlike p c (waiting_at at r) (waiting_at at o)
+  waiting_alike at r o e g = record {
+    whole = g.whole;
+    fits = g.fits;
+    outside = g.outside;
+    pair = g.pair;
+    places = g.places;
+    rests = λ _. record { stands = (g.rests e).stands; unpaired = (g.rests e).unpaired };
+  }
+
+  waiting_related : (at : ℕ) (r o : Hart) → HartsRelated p c r o → is_waiting o.status ≡ true → HartsRelated p c (waiting_at at r) (waiting_at at o)
+  waiting_related at r o k e =
+      let s = waiting_goes_on o.status e in
+      record {
+        replaced_length = k.replaced_length;
+        original_length = k.original_length;
+        status = refl;
+        reservation = k.reservation;
+        clear = k.clear;
+        alike = λ _. waiting_alike at r o s.1 (k.alike s.0);
+      }
+
+  listed_related : (ws : List Waiter) (rs os : List Hart) → AreRelated rs os → AreListed ws os → AreRelated (waiting_as ws rs) (waiting_as ws os)
+  listed_related [] rs os b a = b
+  listed_related (w ∷ ws) rs os b a =
+      let here = All-head (λ (v : Waiter). WaitsIn os v.hart) w ws a.wait in
+      let x = waiting_at w.at (hart_in rs w.hart) in
+      let y = waiting_at w.at (hart_in os w.hart) in
+      listed_related ws (slice_set rs w.hart x) (slice_set os w.hart y)
+      (set_both rs os w.hart x y (waiting_related w.at (hart_in rs w.hart) (hart_in os w.hart) (hart_both rs os w.hart (hart_in os w.hart) (found_waiting os w.hart here) b) here) b)
+      (listed_tail w ws os y a)
 
   -- ---- replies
   module _ (r o : Hart) (k : HartsRelated p c r o) (g : RegsRelated p c r.regs o.regs) (f : Follows p c r o) where
@@ -240,7 +269,7 @@ module _ (p : Picture) (c : Code) where
       related_now =
           woken_related d.woken (written_in (ranges d.changes) r.harts) (written_in (ranges d.changes) o.harts)
           (ranges_related p c (ranges d.changes) r.harts o.harts k.states.harts)
-          (λ i x l. waits_written_in (ranges d.changes) o.harts _ (awoken.wait i x l)) awoken.once
+          (λ i x l. ap is_waiting (status_written_in (ranges d.changes) o.harts (get_or d.woken i x)) ∙ awoken.wait i x l) awoken.once
 
       left_is : hart_in rs1 h ≡ unreserved (is_in (ranges d.changes)) (hart_in r.harts h)
       unfolding rs1
@@ -261,12 +290,15 @@ module _ (p : Picture) (c : Code) where
       unfolding called rs1 os1
       called_with =
           let now = callers_now in
+          let listed = queue_kept h d o.harts o.system.waiting callers.live k.states.waiting fair.queue in
           record {
             outcome = ends_same h rs1 os1 related_now now.harts now.regs now.follows now.place (ap is_live now.harts.status ∙ now.live) now.live d.reply ten_now;
             system = refl;
             memory = changes_related d.changes r.memory o.memory fair.changes k.states.memory;
-            harts = replied_related h rs1 os1 related_now now.harts now.regs now.follows d.reply;
-            waiting = queue_kept h d o.harts o.system.waiting callers.live k.states.waiting fair.queue;
+            harts =
+                listed_related d.state.waiting (replied h d.reply rs1) (replied h d.reply os1)
+                (replied_related h rs1 os1 related_now now.harts now.regs now.follows d.reply) listed;
+            waiting = now_waiting d.state.waiting (replied h d.reply os1) listed (queue_listed h d o.harts o.system.waiting callers.live k.states.waiting fair.queue);
           }
 
     -- both calls do the same

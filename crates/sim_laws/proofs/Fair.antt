@@ -5,7 +5,7 @@ use Rattle.std.specs.List.{list_all}
 use Rattle.std.proofs.lemmas.Bool.{eqb-true}
 use Rattle.std.proofs.lemmas.List.Elements.{All-nil, All-cons, All-map}
 use Rattle.finite.specs.Maps.{Places, contains_all}
-use Rattle.guest_sys.specs.declared.TheConstants.{OUTPUT_LIMIT, HART_LIMIT}
+use Rattle.guest_sys.specs.Limits.{output_limit, hart_limit}
 use Rattle.guest_sys.specs.declared.state.Waiter.{Waiter}
 use Rattle.guest_sys.specs.declared.effect.Reply.{Reply}
 use Rattle.guest_sys.specs.declared.effect.Reply.TheVariants as reply
@@ -103,7 +103,7 @@ module _ (s : State) (h : ℕ) (exits : Bool) where
 
   written_fair : (fd : ℕ) (bytes : List ℕ) → IsFair s h exits (written s fd bytes)
   written_fair fd bytes =
-      fair_if (nat_lt OUTPUT_LIMIT (length (output s fd) + length bytes)) _ _ (quiet reply.OutputFull [] s refl refl no_change)
+      fair_if (nat_lt output_limit (length (output s fd) + length bytes)) _ _ (quiet reply.OutputFull [] s refl refl no_change)
       (quiet (reply.Answer (length bytes)) [] (added s fd bytes) refl (added_waiting (fd == 1) (s.out ++ bytes) (s.err ++ bytes)) no_change)
 
   parts_fair : (see : ℕ → ℕ) (readable : Places) (fd : ℕ) (ps : List (ℕ × ℕ)) → IsFair s h exits (write_parts see readable s fd ps)
@@ -227,7 +227,7 @@ module _ (s : State) (h : ℕ) (exits : Bool) where
   clone_fair writable flags stack parent tls child =
       let words = tid_words flags parent child in
       fair_if (not (is_thread flags) || stack == 0) _ _ (fail 22) (fair_if (not (list_all (is_word writable) words)) _ _ (fail 14)
-      (fair_if (s.made == HART_LIMIT) _ _ (quiet reply.HartsFull [] s refl refl no_change)
+      (fair_if (s.made == hart_limit) _ _ (quiet reply.HartsFull [] s refl refl no_change)
       (quiet (reply.Clone stack (asked_for flags 0x8_0000 tls) (if has flags 0x20_0000 then child else 0) (tid s.made)) (puts (tid_bytes s) words)
       (record s { made = s.made + 1 }) refl refl (puts_whole (tid_bytes s) words))))
 

@@ -12,7 +12,7 @@ use Rattle.image.specs.Aims.{part_end}
 use Rattle.machine.specs.Start.{highest, start_of}
 use Rattle.link_tags.specs.declared.value.Value.{Value}
 use Rattle.guest_mem.specs.Memory.{number_of, bytes_from}
-use Rattle.guest_sys.specs.declared.TheConstants.{MAP_END, OUTPUT_LIMIT, HART_LIMIT}
+use Rattle.guest_sys.specs.Limits.{map_end, output_limit, hart_limit}
 use Rattle.guest_sys.specs.declared.state.Waiter.{Waiter}
 use Rattle.guest_sys.specs.declared.service.Service.{Service}
 use Rattle.guest_sys.specs.declared.service.Service.TheVariants as call
@@ -72,7 +72,7 @@ module _ (s : State) (k : IsOrderly s) where
     few_made = k.few_made;
   }
 
-  with_out : (out : List ℕ) → length out ≤ OUTPUT_LIMIT → IsOrderly (record s { out = out })
+  with_out : (out : List ℕ) → length out ≤ output_limit → IsOrderly (record s { out = out })
   with_out out short = record {
     start_whole = k.start_whole;
     top_whole = k.top_whole;
@@ -85,7 +85,7 @@ module _ (s : State) (k : IsOrderly s) where
     few_made = k.few_made;
   }
 
-  with_err : (err : List ℕ) → length err ≤ OUTPUT_LIMIT → IsOrderly (record s { err = err })
+  with_err : (err : List ℕ) → length err ≤ output_limit → IsOrderly (record s { err = err })
   with_err err short = record {
     start_whole = k.start_whole;
     top_whole = k.top_whole;
@@ -113,7 +113,7 @@ module _ (s : State) (k : IsOrderly s) where
         few_made = k.few_made;
       }
 
-  with_top : (to : ℕ) → to % 4096 ≡ 0 → pages s.break_now ≤ to → to ≤ MAP_END → IsOrderly (record s { map_top = to })
+  with_top : (to : ℕ) → to % 4096 ≡ 0 → pages s.break_now ≤ to → to ≤ map_end → IsOrderly (record s { map_top = to })
   with_top to whole low high = record {
     start_whole = k.start_whole;
     top_whole = whole;
@@ -126,7 +126,7 @@ module _ (s : State) (k : IsOrderly s) where
     few_made = k.few_made;
   }
 
-  with_made : s.made + 1 ≤ HART_LIMIT → IsOrderly (record s { made = s.made + 1 })
+  with_made : s.made + 1 ≤ hart_limit → IsOrderly (record s { made = s.made + 1 })
   with_made few = record {
     start_whole = k.start_whole;
     top_whole = k.top_whole;
@@ -145,13 +145,13 @@ module _ (s : State) (k : IsOrderly s) where
   read_orderly writable fd at count =
       either (not (fd == 0)) _ _ (λ _. k) (λ _. either (not (contains_all writable at (min count (length s.input)))) _ _ (λ _. k) (λ _. with_input (drop (min count (length s.input)) s.input)))
 
-  added_orderly : (b : Bool) (bytes : List ℕ) → length (if b then s.out else s.err) + length bytes ≤ OUTPUT_LIMIT → IsOrderly (if b then record s { out = s.out ++ bytes } else record s { err = s.err ++ bytes })
-  added_orderly true bytes short = with_out (s.out ++ bytes) (subst (λ n. n ≤ OUTPUT_LIMIT) (sym (length-append s.out bytes)) short)
-  added_orderly false bytes short = with_err (s.err ++ bytes) (subst (λ n. n ≤ OUTPUT_LIMIT) (sym (length-append s.err bytes)) short)
+  added_orderly : (b : Bool) (bytes : List ℕ) → length (if b then s.out else s.err) + length bytes ≤ output_limit → IsOrderly (if b then record s { out = s.out ++ bytes } else record s { err = s.err ++ bytes })
+  added_orderly true bytes short = with_out (s.out ++ bytes) (subst (λ n. n ≤ output_limit) (sym (length-append s.out bytes)) short)
+  added_orderly false bytes short = with_err (s.err ++ bytes) (subst (λ n. n ≤ output_limit) (sym (length-append s.err bytes)) short)
 
   written_orderly : (fd : ℕ) (bytes : List ℕ) → IsOrderly (written s fd bytes).state
   written_orderly fd bytes =
-      either (nat_lt OUTPUT_LIMIT (length (output s fd) + length bytes)) _ _ (λ _. k) (λ e. added_orderly (fd == 1) bytes (ltb-false OUTPUT_LIMIT (length (output s fd) + length bytes) e))
+      either (nat_lt output_limit (length (output s fd) + length bytes)) _ _ (λ _. k) (λ e. added_orderly (fd == 1) bytes (ltb-false output_limit (length (output s fd) + length bytes) e))
 
   parts_orderly : (see : ℕ → ℕ) (readable : Places) (fd : ℕ) (ps : List (ℕ × ℕ)) → IsOrderly (write_parts see readable s fd ps).state
   unfolding write_parts
@@ -208,7 +208,7 @@ module _ (s : State) (k : IsOrderly s) where
       either (nat_le s.break_start to && nat_le to s.map_top) _ _
       (λ e. (let t = and_parts (nat_le s.break_start to) (nat_le to s.map_top) e in with_break to (leb-true s.break_start to t.0) (leb-true to s.map_top t.1))) (λ _. k)
 
-  top_orderly : (at to : ℕ) (b : Bool) → (at == s.map_top) ≡ b → to % 4096 ≡ 0 → at ≤ to → to ≤ MAP_END → IsOrderly (if b then record s { map_top = to } else s)
+  top_orderly : (at to : ℕ) (b : Bool) → (at == s.map_top) ≡ b → to % 4096 ≡ 0 → at ≤ to → to ≤ map_end → IsOrderly (if b then record s { map_top = to } else s)
   top_orderly at to true e whole low high = let same = eqb-true at s.map_top e in let below = k.below_top in with_top to whole (omega (arith, same, low, below)) high
   top_orderly at to false e whole low high = k
 
@@ -219,7 +219,7 @@ module _ (s : State) (k : IsOrderly s) where
       either (not (is_page at) || len == 0 || not (is_mapping s at to)) _ _ (λ _. k) (λ e.
       (let t = or_parts (not (is_page at) || len == 0) (not (is_mapping s at to)) e in
       let page = eqb-true (at % 4096) 0 (not_not (is_page at) (or_parts (not (is_page at)) (len == 0) t.0).0) in
-      let high = leb-true to MAP_END (and_parts (nat_le s.map_top at) (nat_le to MAP_END) (not_not (is_mapping s at to) t.1)).1 in
+      let high = leb-true to map_end (and_parts (nat_le s.map_top at) (nat_le to map_end) (not_not (is_mapping s at to) t.1)).1 in
       top_orderly at to (at == s.map_top) refl (omega (arith, page)) (omega arith) high))
 
   mmap_orderly : (len rights flags : ℕ) → IsOrderly (mmap s len rights flags).state
@@ -241,7 +241,7 @@ module _ (s : State) (k : IsOrderly s) where
   unfolding clone
   clone_orderly writable flags stack parent tls child =
       either (not (is_thread flags) || stack == 0) _ _ (λ _. k) (λ _. either (not (list_all (is_word writable) (tid_words flags parent child))) _ _ (λ _. k)
-      (λ _. either (s.made == HART_LIMIT) _ _ (λ _. k) (λ e. (let other = eqb-false s.made HART_LIMIT e in let few = k.few_made in with_made (omega (arith, other, few))))))
+      (λ _. either (s.made == hart_limit) _ _ (λ _. k) (λ e. (let other = eqb-false s.made hart_limit e in let few = k.few_made in with_made (omega (arith, other, few))))))
 
   -- ---- each call
   served_orderly : (see : ℕ → ℕ) (readable writable : Places) (h clear : ℕ) (v : Service) (a0 a1 a2 a3 a4 : ℕ) → IsOrderly (served see readable writable s h clear v a0 a1 a2 a3 a4).state

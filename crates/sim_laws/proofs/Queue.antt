@@ -1,10 +1,12 @@
 -- The waiting list after a call: each hart that is left on it waits still, and is there once.
-use Rattle.std.proofs.Common.{◌≡◌, ◌≢◌, ℕ, zero, suc, Bool, true, false, List, [], ◌∷◌, ◌++◌, map, get_or, refl, sym, subst, arith}
-use Rattle.std.specs.Prelude.{All, AllPairs}
+use Rattle.std.proofs.Common.{◌≡◌, ◌≢◌, ℕ, zero, suc, Bool, true, false, List, [], ◌∷◌, ◌++◌, map, get_or, refl, sym, ap, ◌∙◌, subst, arith}
+use Rattle.std.specs.Prelude.{◌==◌, ◌||◌, All, AllPairs}
+use Rattle.std.proofs.lemmas.Bool.{ne_eqb, eqb-false}
 use Rattle.std.proofs.lemmas.List.Elements.{All-nil, All-cons, All-head, All-tail, All-append, All-map}
 use Rattle.std.proofs.lemmas.List.Kept.{AllPairs-cons}
 use Rattle.guest_sys.specs.declared.state.Waiter.{Waiter}
 use Rattle.guest_sys.specs.Waiting.{waits_at, first_at, others, sent_to, requeued}
+use Rattle.sim_laws.specs.Related.{is_listed}
 use Rattle.guest_sys.proofs.SplitLaws.{first_out, others_out, others_past}
 
 -- ---- pairs
@@ -132,6 +134,69 @@ after_requeue n a m b ws h =
       left_once = requeue_once m a b (others n a ws) first.left_once;
       not_woken = requeue_all (λ j. All (λ w. j ≢ w.hart) (first_at n a ws)) m a b (others n a ws) first.not_woken;
     }
+
+-- ---- who is on the list
+either : (b x y : Bool) → (b || x) ≡ true → (x ≡ true → y ≡ true) → (b || y) ≡ true
+either true x y e f = refl
+either false x y e f = f e
+
+pub or_some : (x : Bool) → (x || true) ≡ true
+or_some true = refl
+or_some false = refl
+
+or_second : (b x y z : Bool) → (b || x) ≡ true → (x ≡ true → (y || z) ≡ true) → (y || (b || z)) ≡ true
+or_second true x y z e f = or_some y
+or_second false x y z e f = f e
+
+or_first : (b x y z : Bool) → (b || x) ≡ true → (x ≡ true → (y || z) ≡ true) → ((b || y) || z) ≡ true
+or_first true x y z e f = refl
+or_first false x y z e f = f e
+
+-- who isn't one of the first is one of the others
+others_listed : {fs os ws : List Waiter} (k : ℕ) → Parted fs os ws → All (λ w. k ≢ w.hart) fs → is_listed ws k ≡ true → is_listed os k ≡ true
+others_listed k none far e = e
+others_listed k (first {fs = fs} {os = os} {ws = ws} w p) far e =
+    let away = ne_eqb w.hart k (λ q. All-head (λ (v : Waiter). k ≢ v.hart) w fs far (sym q)) in
+    others_listed k p (All-tail (λ (v : Waiter). k ≢ v.hart) w fs far) (ap (λ b. b || is_listed ws k) (sym away) ∙ e)
+others_listed k (other {fs = fs} {os = os} {ws = ws} w p) far e = either (w.hart == k) (is_listed ws k) (is_listed os k) e (others_listed k p far)
+
+pub left_listed : (n a k : ℕ) (ws : List Waiter) → All (λ w. k ≢ w.hart) (first_at n a ws) → is_listed ws k ≡ true → is_listed (others n a ws) k ≡ true
+left_listed n a k ws far e = others_listed k (parted n a ws) far e
+
+parted_listed : {fs os ws : List Waiter} (k : ℕ) → Parted fs os ws → is_listed ws k ≡ true → (is_listed os k || is_listed fs k) ≡ true
+parted_listed k none e = e
+parted_listed k (first {fs = fs} {os = os} {ws = ws} w p) e = or_second (w.hart == k) (is_listed ws k) (is_listed os k) (is_listed fs k) e (parted_listed k p)
+parted_listed k (other {fs = fs} {os = os} {ws = ws} w p) e = or_first (w.hart == k) (is_listed ws k) (is_listed os k) (is_listed fs k) e (parted_listed k p)
+
+or_assoc : (a b c : Bool) → ((a || b) || c) ≡ (a || (b || c))
+or_assoc true b c = refl
+or_assoc false b c = refl
+
+listed_append : (xs ys : List Waiter) (k : ℕ) → is_listed (xs ++ ys) k ≡ (is_listed xs k || is_listed ys k)
+listed_append [] ys k = refl
+listed_append (x ∷ xs) ys k = ap (λ b. (x.hart == k) || b) (listed_append xs ys k) ∙ sym (or_assoc (x.hart == k) (is_listed xs k) (is_listed ys k))
+
+listed_sent : (b : ℕ) (ws : List Waiter) (k : ℕ) → is_listed (sent_to b ws) k ≡ is_listed ws k
+listed_sent b [] k = refl
+listed_sent b (w ∷ ws) k = ap (λ x. (w.hart == k) || x) (listed_sent b ws k)
+
+-- who is requeued stays on the list
+pub requeue_listed : (m a b k : ℕ) (ws : List Waiter) → is_listed ws k ≡ true → is_listed (requeued m a b ws) k ≡ true
+requeue_listed m a b k ws e =
+    listed_append (others m a ws) (sent_to b (first_at m a ws)) k ∙ ap (λ x. is_listed (others m a ws) k || x) (listed_sent b (first_at m a ws) k) ∙ parted_listed k (parted m a ws) e
+
+pub join_listed : (h at k : ℕ) (ws : List Waiter) → (is_listed ws k || (h == k)) ≡ true → is_listed (ws ++ (record { hart = h; at = at }) ∷ []) k ≡ true
+join_listed h at k ws e = listed_append ws ((record { hart = h; at = at }) ∷ []) k ∙ either (is_listed ws k) (h == k) ((h == k) || false) e (λ q. ap (λ b. b || false) q)
+
+pub not_listed : (k : ℕ) (ws : List Waiter) → is_listed ws k ≡ false → All (λ w. k ≢ w.hart) ws
+not_listed k [] e = All-nil (λ w. k ≢ w.hart)
+not_listed k (w ∷ ws) e =
+    let parts = or_none (w.hart == k) (is_listed ws k) e in
+    All-cons (λ v. k ≢ v.hart) w ws (λ q. eqb-false w.hart k parts.0 (sym q)) (not_listed k ws parts.1)
+  where
+    or_none : (a b : Bool) → (a || b) ≡ false → (a ≡ false) × (b ≡ false)
+    or_none true b e = absurd (cc)
+    or_none false b e = (refl, e)
 
 -- one more behind the others
 pub after_join : (h at : ℕ) (ws : List Waiter) → AllPairs Other ws → All (λ w. w.hart ≢ h) ws → AllPairs Other (ws ++ (record { hart = h; at = at }) ∷ [])

@@ -1,5 +1,5 @@
 -- Changes of related states at one hart, and the test whether a run stalls.
-use Rattle.std.proofs.Common.{◌≡◌, ℕ, zero, suc, ◌%◌, Bool, true, false, cond, List, [], ◌∷◌, map, refl, sym, ap, ◌∙◌, subst}
+use Rattle.std.proofs.Common.{◌≡◌, ℕ, zero, suc, ◌%◌, Bool, true, false, cond, List, [], ◌∷◌, map, get_or, refl, sym, ap, ◌∙◌, subst}
 use Rattle.std.specs.Prelude.{Option, Some, None, ◌&&◌, not, is_some, slice_get, slice_set}
 use Rattle.std.proofs.lemmas.Bool.{eq-eqb}
 use Rattle.std.proofs.lemmas.List.{set-get_or}
@@ -22,24 +22,28 @@ use Rattle.sim_laws.specs.Related.{Both, HartsRelated, is_waiting, AreWaiting, S
 use Rattle.sim_laws.proofs.HartLists.{set_both, set_left, any_same, all_same, hart_at}
 
 -- ---- waiting
--- no hart that waits has gone on
-abbrev pub StillWait : List Hart → List Hart → Type 0
-StillWait before now = (k : ℕ) → is_waiting (hart_in before k).status ≡ true → is_waiting (hart_in now k).status ≡ true
+-- each hart's status is as it was
+abbrev pub KeepStatus : List Hart → List Hart → Type 0
+KeepStatus before now = (k : ℕ) → (hart_in now k).status ≡ (hart_in before k).status
 
-pub waiting_kept : (ws : List Waiter) (before now : List Hart) → StillWait before now → AreWaiting ws before → AreWaiting ws now
-waiting_kept ws before now f a = record { wait = λ k d l. f _ (a.wait k d l); once = a.once }
+pub waiting_kept : (ws : List Waiter) (before now : List Hart) → KeepStatus before now → AreWaiting ws before → AreWaiting ws now
+waiting_kept ws before now f a = record {
+  wait = λ k d l. f (get_or ws k d).hart ∙ a.wait k d l;
+  once = a.once;
+  listed = λ h e. a.listed h (ap is_waiting (sym (f h)) ∙ e);
+}
 
-pub waits_set : (hs : List Hart) (h : ℕ) (x : Hart) → (is_waiting (hart_in hs h).status ≡ true → is_waiting x.status ≡ true) → StillWait hs (slice_set hs h x)
-waits_set [] h x f k e = e
-waits_set (y ∷ ys) zero x f zero e = f e
-waits_set (y ∷ ys) zero x f (suc k) e = e
-waits_set (y ∷ ys) (suc h) x f zero e = e
-waits_set (y ∷ ys) (suc h) x f (suc k) e = waits_set ys h x f k e
+pub status_set : (hs : List Hart) (h : ℕ) (x : Hart) → x.status ≡ (hart_in hs h).status → KeepStatus hs (slice_set hs h x)
+status_set [] h x f k = refl
+status_set (y ∷ ys) zero x f zero = f
+status_set (y ∷ ys) zero x f (suc k) = refl
+status_set (y ∷ ys) (suc h) x f zero = refl
+status_set (y ∷ ys) (suc h) x f (suc k) = status_set ys h x f k
 
-pub waits_map : (among : ℕ → Bool) (hs : List Hart) → StillWait hs (map (unreserved among) hs)
-waits_map among [] k e = e
-waits_map among (y ∷ ys) zero e = e
-waits_map among (y ∷ ys) (suc k) e = waits_map among ys k e
+pub status_map : (among : ℕ → Bool) (hs : List Hart) → KeepStatus hs (map (unreserved among) hs)
+status_map among [] k = refl
+status_map among (y ∷ ys) zero = refl
+status_map among (y ∷ ys) (suc k) = status_map among ys k
 
 -- ---- a run that hasn't stalled
 not_both : (b : Bool) → (b && false) ≡ false
@@ -113,7 +117,7 @@ module _ (p : Picture) (c : Code) where
     system = s.system;
     memory = s.memory;
     harts = set_both r.harts o.harts h hr ho k s.harts;
-    waiting = waiting_kept o.system.waiting o.harts (slice_set o.harts h ho) (waits_set o.harts h ho (λ e. ap is_waiting same ∙ e)) s.waiting;
+    waiting = waiting_kept o.system.waiting o.harts (slice_set o.harts h ho) (status_set o.harts h ho same) s.waiting;
   }
 
   -- hart h of the moved machine alone goes on: a layout step

@@ -28,7 +28,7 @@ use Rattle.layout.specs.Points.{Code, at_start, in_range, code_of, live_at}
 use Rattle.layout.specs.Rows.{StartRow, Renders}
 use Rattle.layout.proofs.TextWords.{found, text_high, text_whole, text_outside}
 use Rattle.layout.proofs.TextRows.{IsOutside, text_row}
-use Rattle.machine.specs.declared.TheConstants.{STACK_START, STACK_POINTER}
+use Rattle.machine.specs.Stack.{stack_start, stack_pointer}
 use Rattle.machine.specs.Start.{start_memory, start_hart, start_of}
 use Rattle.machine.specs.Loaded.{is_stack}
 use Rattle.machine.proofs.LoadedStack.{loaded}
@@ -118,7 +118,7 @@ module _ (p : Picture) (kept : IsKept p) where
       let from = leb-true q.range.from a t.0 in
       let to = leb-true (a + 8) q.range.to t.1 in
       let top = fit.high in
-      let below : a + j < STACK_START = omega (arith, to, top, lt) in
+      let below : a + j < stack_start = omega (arith, to, top, lt) in
       let stack : is_stack (a + j) ≡ false = grind (arith, nat_tests) in
       let covers = covering p.parts a (a + j) q kept.parts_rise e (omega arith) (omega (arith, lt)) in
       let place : a + j - q.range.from ≡ a - q.range.from + j = omega (arith, from) in
@@ -197,12 +197,12 @@ module _ (p : Picture) (kept : IsKept p) where
 
     hart_itself : HartsRelated p c (start_hart p) (start_hart p)
     hart_itself = record {
-      replaced_length = length-set (replicate 32 (plain 0)) 2 (plain STACK_POINTER);
-      original_length = length-set (replicate 32 (plain 0)) 2 (plain STACK_POINTER);
+      replaced_length = length-set (replicate 32 (plain 0)) 2 (plain stack_pointer);
+      original_length = length-set (replicate 32 (plain 0)) 2 (plain stack_pointer);
       status = refl;
       reservation = refl;
       clear = refl;
-      alike = λ e. lands_alike p c entry_lands (plain_regs (start_hart p).regs (plain_set (replicate 32 (plain 0)) 2 STACK_POINTER (plain_replicate 32)));
+      alike = λ e. lands_alike p c entry_lands (plain_regs (start_hart p).regs (plain_set (replicate 32 (plain 0)) 2 stack_pointer (plain_replicate 32)));
     }
       where
         plain_regs : (rs : List Value) → AllPlain rs → RegsRelated p c rs rs
@@ -216,7 +216,7 @@ module _ (p : Picture) (kept : IsKept p) where
       system = refl;
       memory = memory_itself;
       harts = harts_itself;
-      waiting = none_waits (start_hart p ∷ []);
+      waiting = none_waits (start_hart p) refl;
     }
       where
         harts_itself : (h : ℕ) → Both (HartsRelated p c) (slice_get (start_hart p ∷ []) h) (slice_get (start_hart p ∷ []) h)

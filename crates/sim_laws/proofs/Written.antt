@@ -6,9 +6,9 @@ use Rattle.image.specs.Picture.{Picture}
 use Rattle.hart.specs.declared.hart.Hart.{Hart}
 use Rattle.layout.specs.Points.{Code}
 use Rattle.machine.specs.Harts.{hart_in, lost, unreserved, is_in, written_by, written_in}
-use Rattle.sim_laws.specs.Related.{Both, is_waiting, GoOnAlike, HartsRelated}
+use Rattle.sim_laws.specs.Related.{Both, GoOnAlike, HartsRelated}
 use Rattle.sim_laws.proofs.HartLists.{set_both, map_both, found_at, hart_at}
-use Rattle.sim_laws.proofs.Settled.{StillWait, waits_set, waits_map}
+use Rattle.sim_laws.proofs.Settled.{KeepStatus, status_set, status_map}
 
 -- hart h of a list whose harts lost reservations
 pub hart_map : (among : ℕ → Bool) (hs : List Hart) (h : ℕ) → hart_in (map (unreserved among) hs) h ≡ unreserved among (hart_in hs h)
@@ -16,11 +16,11 @@ hart_map among [] h = refl
 hart_map among (y ∷ ys) zero = refl
 hart_map among (y ∷ ys) (suc h) = hart_map among ys h
 
-pub waits_written : (h block : ℕ) (hs : List Hart) → StillWait hs (written_by h block hs)
+pub status_written : (h block : ℕ) (hs : List Hart) → KeepStatus hs (written_by h block hs)
 unfolding written_by
-waits_written h block hs k e =
+status_written h block hs k =
     let among = λ (b : ℕ). b == block in
-    waits_set (map (unreserved among) hs) h (hart_in hs h) (λ e. ap (λ (x : Hart). is_waiting x.status) (sym (hart_map among hs h)) ∙ e) k (waits_map among hs k e)
+    status_set (map (unreserved among) hs) h (hart_in hs h) (ap (λ (x : Hart). x.status) (sym (hart_map among hs h))) k ∙ status_map among hs k
 
 module _ (p : Picture) (c : Code) where
   unreserved_alike : (among : ℕ → Bool) (r o : Hart) → GoOnAlike p c r o → GoOnAlike p c (unreserved among r) (unreserved among o)

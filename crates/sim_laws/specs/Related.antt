@@ -1,6 +1,7 @@
 -- When a state of the machine whose code has been moved stands for a state of the original one: what both keep alike is equal, and
 -- what names code is a place from which both go on alike. Source: this project.
-use Rattle.std.specs.Prelude.{◌≡◌, ◌≢◌, ℕ, ◌+◌, ◌*◌, ◌%◌, ◌^◌, ◌<◌, Bool, true, false, List, length, All, AllPairs, Option, Some, None, slice_get}
+use Rattle.std.specs.Prelude.{◌≡◌, ◌≢◌, ◌==◌, ℕ, ◌+◌, ◌*◌, ◌%◌, ◌^◌, ◌<◌, Bool, true, false, List, length, All, AllPairs, Option, Some, None, slice_get}
+use Rattle.std.specs.List.{list_any}
 use Rattle.finite.specs.Maps.{contains}
 use Rattle.rv_isa.specs.declared.instr.Instr.TheVariants.{Auipc}
 use Rattle.image.specs.Targets.{made_by}
@@ -96,10 +97,15 @@ is_waiting Live = false
 is_waiting (Waiting at) = true
 is_waiting Ended = false
 
--- each hart on the list of the waiting ones waits, and is there once: so whoever is woken has waited
+abbrev pub is_listed : List Waiter → ℕ → Bool
+is_listed waiting h = list_any (λ w. w.hart == h) waiting
+
+-- each hart on the list of the waiting ones waits at the address that the list has, and is there once: so whoever is woken has waited;
+-- and each hart that waits is there
 pub record AreWaiting (waiting : List Waiter) (harts : List Hart) : Type 0 where
-  pub wait : All (λ w. is_waiting (hart_in harts w.hart).status ≡ true) waiting
+  pub wait : All (λ w. (hart_in harts w.hart).status ≡ Waiting w.at) waiting
   pub once : AllPairs (λ v w. v.hart ≢ w.hart) waiting
+  pub listed : (h : ℕ) → is_waiting (hart_in harts h).status ≡ true → is_listed waiting h ≡ true
 
 -- ---- the whole state. The system's part is equal: outputs, what is left of the input, break, mappings, waiting list, harts made
 pub record StatesRelated (p : Picture) (c : Code) (r o : State) : Type 0 where

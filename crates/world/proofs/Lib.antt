@@ -1,10 +1,12 @@
 pub mod WholeHops
 pub mod Following
+pub mod LinksRise
 pub mod Lives
 pub mod Moving
 pub mod Placing
 pub mod Replacement
 pub mod Running
+pub mod SoundAgain
 pub mod Starting
 pub mod Stepping
 pub mod Telling

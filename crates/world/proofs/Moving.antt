@@ -1,14 +1,11 @@
 -- Steps of layouts alone, and how they are taken back.
-use Rattle.std.proofs.Common.{◌≡◌, ℕ, zero, suc, ◌<◌, Bool, true, false, cond, List, [], ◌∷◌, length, set, get_or, refl, sym, ap, ◌∙◌, subst, arith, length-set}
-use Rattle.std.specs.Prelude.{slice_set}
+use Rattle.std.proofs.Common.{◌≡◌, ℕ, zero, suc, ◌<◌, true, List, [], ◌∷◌, length, set, refl, sym, ap, ◌∙◌, subst, length-set}
 use Rattle.std.proofs.lemmas.List.{set-get_or, get_or-set_same}
 use Rattle.hart.specs.declared.hart.Hart.{Hart}
 use Rattle.link_tags.specs.declared.value.Value.{Value}
 use Rattle.machine.specs.Harts.{hart_in, no_hart}
 use Rattle.machine.specs.States.{State}
-use Rattle.machine.specs.Steps.{with_hart}
 use Rattle.machine.proofs.HartLists.{live_made}
-use Rattle.sim_laws.specs.declared.stepped.Stepped.{Stepped}
 use Rattle.sim_laws.specs.Steps.{is_layout}
 use Rattle.sim_laws.proofs.LayoutSteps.{layout_of, moves_alone}
 use Rattle.world.specs.declared.counts.Counts.{Counts}

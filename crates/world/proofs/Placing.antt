@@ -1,6 +1,6 @@
 -- What a replacement makes, and why it is refused.
-use Rattle.std.proofs.Common.{◌≡◌, ◌≢◌, ℕ, ◌+◌, ◌-◌, ◌*◌, ◌%◌, ◌^◌, ◌<◌, ◌≤◌, Bool, true, false, List, [], ◌∷◌, length, map, refl, sym, ap, ◌∙◌, subst, arith}
-use Rattle.std.specs.Prelude.{Option, Some, None, nat_le, nat_lt, ◌&&◌, All, find}
+use Rattle.std.proofs.Common.{◌≡◌, ◌≢◌, ℕ, ◌+◌, ◌-◌, ◌*◌, ◌%◌, ◌^◌, ◌<◌, ◌≤◌, true, List, [], ◌∷◌, length, refl, sym, ap, ◌∙◌, subst, arith}
+use Rattle.std.specs.Prelude.{Option, Some, None, nat_le, nat_lt, All, find}
 use Rattle.std.specs.Option.{option_map}
 use Rattle.std.proofs.lemmas.Bool.{and_from, le-leb, lt-ltb}
 use Rattle.std.proofs.lemmas.List.Elements.{All-contains}
@@ -12,16 +12,14 @@ use Rattle.layout.specs.Points.{in_range}
 use Rattle.layout.specs.Alone.{InRegion, RendersAlone}
 use Rattle.plans.specs.declared.plan.Moved.{Moved}
 use Rattle.plans.specs.Given.{plan_fault}
-use Rattle.emit.specs.declared.entry.Entry.{Entry}
 use Rattle.emit.specs.Entries.{entries_of}
 use Rattle.emit.specs.Emitted.{IsEmitted, plan_unreadable, Explains, ExplainsSize}
 use Rattle.emit.specs.declared.fault.EmitFault.{EmitFault}
 use Rattle.emit.specs.declared.fault.EmitFault.TheVariants as fault
-use Rattle.patcher.specs.Reach as reach
 use Rattle.region.specs.Free.{Rises, AreFree, holds, range_from, fit, largest}
 use Rattle.sched_log.specs.declared.facts.Refusal.{Refusal}
 use Rattle.sched_log.specs.declared.facts.Refusal.TheVariants as refusal
-use Rattle.world.specs.Replacing.{size_of, told_as, IsNew, no_layout, layout_at, in_layout, in_call, Refuses, ReachRefuses, IsFit}
+use Rattle.world.specs.Replacing.{size_of, told_as, IsNew, layout_at, in_layout, in_call, Refuses, ReachRefuses, IsFit}
 use Rattle.world.proofs.ShortWords.{short_layout}
 use Rattle.world.proofs.WholeHops.{hops_whole}
 
@@ -60,7 +58,7 @@ fit_low p r free need b m k e h f g le =
     let to = ap (λ (q : Range). q.to) e in
     omega (arith, le, low, to, g)
 
-within_region : (r : Range) (base n : ℕ) → r.from ≤ base → base + 4 * n ≤ r.to → (k : ℕ) → k < n → in_range r (base + 4 * k) ≡ true
+pub within_region : (r : Range) (base n : ℕ) → r.from ≤ base → base + 4 * n ≤ r.to → (k : ℕ) → k < n → in_range r (base + 4 * k) ≡ true
 within_region r base n low high k lt =
     and_from (nat_le r.from (base + 4 * k)) (nat_lt (base + 4 * k) r.to) (le-leb r.from (base + 4 * k) (omega (arith, low))) (lt-ltb (base + 4 * k) r.to (omega (arith, high, lt)))
 

@@ -1,29 +1,24 @@
 -- A world after a replacement: what its code keeps, and what it stands for.
-use Rattle.std.proofs.Common.{◌≡◌, ◌≢◌, ℕ, ◌+◌, ◌*◌, ◌%◌, ◌<◌, ◌≤◌, Bool, true, false, cond, not, List, [], ◌∷◌, ◌++◌, length, refl, sym, ap, ◌∙◌, subst, inl, inr, arith, length-append}
-use Rattle.std.specs.Prelude.{Option, Some, None, IfSome, nat_le, nat_lt, ◌&&◌, ◌||◌, ◌⊎◌, ◌↔◌, All, AllPairs, is_some, Result, Ok, Err, if◌then◌else◌}
-use Rattle.std.specs.List.{list_any, flat_map, AllByRecursion}
-use Rattle.std.specs.Option.{option_map}
-use Rattle.std.proofs.lemmas.Bool.{and_parts, false≢true}
+use Rattle.std.proofs.Common.{◌≡◌, ℕ, zero, suc, ◌+◌, ◌*◌, ◌%◌, ◌<◌, ◌≤◌, Bool, true, false, not, List, [], ◌∷◌, ◌++◌, length, refl, sym, ap, ◌∙◌, subst, inl, inr, arith, length-append}
+use Rattle.std.specs.Prelude.{Option, Some, None, IfSome, nat_le, nat_lt, ◌&&◌, ◌||◌, ◌⊎◌, ◌↔◌, All, Result, Ok, Err, if◌then◌else◌}
+use Rattle.std.specs.List.{flat_map, AllByRecursion}
 use Rattle.std.proofs.lemmas.Bool.Decides.{nat_tests}
 use Rattle.std.proofs.lemmas.List.Elements.{All-nil, All-cons, recursion_from_All, All-from_recursion}
 use Rattle.oc_base.specs.declared.range.Range.{Range}
 use Rattle.image.specs.declared.ranges.TextRange.{TextRange}
-use Rattle.image.specs.Texts.{word_at}
-use Rattle.image.specs.Picture.{Picture, IsKept}
-use Rattle.layout.specs.declared.point.Point.{Point}
+use Rattle.image.specs.Picture.{Picture}
 use Rattle.layout.specs.declared.point.Point.TheVariants.{Start, Hop, Mid}
 use Rattle.layout.specs.Laid.{Laid, IsLaid}
-use Rattle.layout.specs.Points.{Code, StandsFor, at_start, at_hop, in_range, live_at, here_point}
-use Rattle.layout.specs.Rows.{MovedRow}
-use Rattle.layout.specs.Alone.{InRegion}
+use Rattle.layout.specs.Points.{StandsFor, at_start, at_hop, in_range, live_at}
+use Rattle.layout.specs.Alone.{InRegion, NamesCalls}
 use Rattle.machine.specs.States.{State}
 use Rattle.plans.specs.declared.plan.Moved.{Moved}
-use Rattle.patcher.specs.declared.patches.Patch.{Patch}
 use Rattle.patcher.specs.declared.patches.Patches.{Patches}
-use Rattle.patcher.specs.Patched.{LieApart, EachPatches, ArePatches, CanJoin, CanPlace, IsPlaced, IsPatchedText, ArePatched, texts_with, layouts_with, joined, Fits}
-use Rattle.patcher.proofs.Keeps.{keeps}
+use Rattle.patcher.specs.Patched.{LieApart, CanJoin, IsPlaced, IsPatchedText, ArePatched, texts_with, layouts_with, joined}
+use Rattle.patcher.proofs.Keeps.{renders_on}
 use Rattle.patcher.proofs.Patching.{fits, patched_text, patched_layouts}
-use Rattle.region.specs.Free.{Rises, is_free, range, piece, without, taken}
+use Rattle.region.specs.Free.{Rises, AreFree, is_free, range, piece, without, taken}
+use Rattle.region.proofs.Taking.{took, taken_addresses, taken_none, none_addresses}
 use Rattle.sched_log.specs.declared.facts.Refusal.{Refusal}
 use Rattle.sched_log.specs.declared.facts.Refusal.TheVariants as refusal
 use Rattle.sim_laws.specs.Codes.{GoesToWord}
@@ -33,7 +28,7 @@ use Rattle.sim_laws.proofs.Change.{kept_by_change}
 use Rattle.world.specs.declared.counts.Counts.{Counts}
 use Rattle.world.specs.Worlds.{Replaced, code_in, code_of, covers, more, IsSound, Related}
 use Rattle.world.proofs.ShortWords.{short_calls}
-use Rattle.world.specs.Replacing.{HasShortWords, IsNew, IsFit, IsPlacement, IsReplaced, placed_by, done_by, numbered, left_by, refused_as, Refuses, RefusedBy, IsRefused, Attempts}
+use Rattle.world.specs.Replacing.{HasShortWords, IsFit, IsPlacement, IsReplaced, placed_by, done_by, numbered, left_by, refused_as, Refuses, RefusedBy, IsRefused, Attempts}
 
 -- ---- the free ranges
 abbrev AreWhole : List Range → Type 0
@@ -110,38 +105,41 @@ rest_one r before after l s t a = same_test (is_free after a) (in_range r a && n
     back : (in_range r a && not (covers a l || false)) ≡ true → is_free after a ≡ true
     back e = let k = parts (in_range r a) (covers a l) e in (t a).1 (s a ∙ k.0, apart k.1)
 
+left_rises : (low high : ℕ) (rs : List Range) (at n : ℕ) → Rises low high rs → AreFree rs at n → Rises low high (taken at (at + n) rs)
+left_rises low high rs at zero h f = rw (taken_none rs at) h
+left_rises low high rs at (suc n) h f = (took low high rs at (suc n) h (omega arith) f).rises
+
+left_addresses : (low high : ℕ) (rs : List Range) (at n a : ℕ) → Rises low high rs → AreFree rs at n
+    → (is_free (taken at (at + n) rs) a ≡ true) ↔ ((is_free rs a ≡ true) × ((a < at) ⊎ (at + n ≤ a)))
+left_addresses low high rs at zero a h f = rw (taken_none rs at) (none_addresses rs at a)
+left_addresses low high rs at (suc n) a h f = taken_addresses low high rs at (suc n) a h (omega arith) f
+
 -- ---- what the code keeps
-each_none : (p : Picture) (new : Option Laid) (qs : List (List Patch)) → layouts_with qs [] ≡ []
-each_none p new [] = refl
-each_none p new (q ∷ qs) = refl
+none_patched : (p : Picture) (new : Option Laid) (older : List Laid) → ArePatched p new [] older → older ≡ []
+none_patched p new [] h = refl
+none_patched p new (l ∷ ls) h = absurd h
 
-module _ (p : Picture) (text : List TextRange) (numbers : List ℕ) (free : List Range) (plan : List Moved) (q : Patches) (counts : Counts) (s : IsSound p text [] numbers free) where
-  can_join : (l : Laid) → IsFit p free l → CanJoin p [] l
-  can_join l f = record { laid = f.laid; renders = f.renders; apart = All-nil (LieApart l) }
+module _ (p : Picture) (text after : List TextRange) (numbers : List ℕ) (free : List Range) (counts : Counts) (s : IsSound p text [] numbers free) where
+  can_join : (new : Option Laid) → IfSome new (IsFit p free) → IfSome new (CanJoin p [])
+  can_join None f = tt
+  can_join (Some l) f = record { laid = f.laid; renders = f.renders; apart = All-nil (LieApart l) }
 
-  can_place : (new : Option Laid) → IfSome new (IsFit p free) → CanPlace p text [] new
-  can_place new f = record {
-    kept = s.kept;
-    text = s.placed.text;
-    laid = s.placed.laid;
-    calls = s.placed.calls;
-    renders = s.placed.renders;
-    joins = by_new new f;
+  alone_all : (P : Laid → Type 0) (new : Option Laid) → IfSome new (IsFit p free) → ((l : Laid) → IsFit p free l → P l) → All P (joined [] new)
+  alone_all P None f g = All-nil P
+  alone_all P (Some l) f g = All-cons P l [] (g l f) (All-nil P)
+
+  placed_again : (new : Option Laid) → IfSome new (IsFit p free) → IsPatchedText p new text after → IsPlaced p after (joined [] new)
+  placed_again new f t = record {
+    text = t.spans ∙ s.placed.text;
+    laid = alone_all IsLaid new f (λ l g. g.laid);
+    calls = alone_all (NamesCalls p) new f (λ l g. g.renders.calls);
+    renders = renders_on p s.kept text after [] [] new t tt (can_join new f) s.placed.renders;
   }
-    where
-      by_new : (o : Option Laid) → IfSome o (IsFit p free) → IfSome o (CanJoin p [])
-      by_new None f = tt
-      by_new (Some l) f = can_join l f
 
-  placed_again : (new : Option Laid) → IsPlacement p [] free plan new q → IsPlaced p (texts_with q.text text) (joined [] new)
-  placed_again new h =
-      subst (λ (ls : List Laid). IsPlaced p (texts_with q.text text) (joined ls new)) (each_none p new q.lives) (keeps p new text [] q (can_place new h.fits) h.aims)
-
-  sound_by : (new : Option Laid) → IsPlacement p [] free plan new q → Rises p.region.from p.region.to (left_by new free) → IfSome new (Rest free (left_by new free))
-      → IsSound p (texts_with q.text text) (joined [] new) (numbered new counts numbers) (left_by new free)
-  sound_by None h u t = record {
+  sound_by : (new : Option Laid) → IfSome new (IsFit p free) → IsPatchedText p new text after → IsSound p after (joined [] new) (numbered new counts numbers) (left_by new free)
+  sound_by None f t = record {
     kept = s.kept;
-    placed = placed_again None h;
+    placed = placed_again None f t;
     hops = s.hops;
     within = s.within;
     apart = s.apart;
@@ -150,45 +148,50 @@ module _ (p : Picture) (text : List TextRange) (numbers : List ℕ) (free : List
     whole = s.whole;
     rest = s.rest;
   }
-  sound_by (Some l) h u t =
-      let laid = h.fits.laid in
+  sound_by (Some l) f t =
       let none = s.numbered in
       let longer = length-append numbers (more counts.placed ∷ []) in
-      let whole_base = laid.whole in
+      let whole_base = f.laid.whole in
       record {
         kept = s.kept;
-        placed = placed_again (Some l) h;
-        hops = All-cons (λ (m : Laid). All GoesToWord m.points) l [] h.fits.hops (All-nil (λ (m : Laid). All GoesToWord m.points));
-        within = All-cons (λ (m : Laid). InRegion p m.base (length m.words)) l [] h.fits.renders.within (All-nil (λ (m : Laid). InRegion p m.base (length m.words)));
+        placed = placed_again (Some l) f t;
+        hops = All-cons (λ (m : Laid). All GoesToWord m.points) l [] f.hops (All-nil (λ (m : Laid). All GoesToWord m.points));
+        within = All-cons (λ (m : Laid). InRegion p m.base (length m.words)) l [] f.renders.within (All-nil (λ (m : Laid). InRegion p m.base (length m.words)));
         apart = λ i j d lt within. absurd (omega (arith, lt, within));
         numbered = omega (arith, none, longer);
-        rises = u;
+        rises = left_rises p.region.from p.region.to free l.base (4 * length l.words) s.rises f.unused;
         whole = taken_whole l.base (l.base + 4 * length l.words) free (omega (arith, whole_base)) s.whole;
-        rest = rest_one p.region free (left_by (Some l) free) l s.rest t;
+        rest = rest_one p.region free (left_by (Some l) free) l s.rest (λ a. left_addresses p.region.from p.region.to free l.base (4 * length l.words) a s.rises f.unused);
       }
 
-pub placed_sound : (p : Picture) (text : List TextRange) (lives : List Laid) (numbers : List ℕ) (free : List Range) (plan : List Moved) (new : Option Laid) (q : Patches) (counts : Counts)
-    → IsSound p text lives numbers free → lives ≡ [] → IsPlacement p lives free plan new q → Rises p.region.from p.region.to (left_by new free) → IfSome new (Rest free (left_by new free))
+pub sound_again : (p : Picture) (text after : List TextRange) (lives older : List Laid) (numbers : List ℕ) (free : List Range) (counts : Counts) (new : Option Laid)
+    → IsSound p text lives numbers free → lives ≡ [] → IfSome new (IsFit p free) → IsPatchedText p new text after → ArePatched p new lives older
+    → IsSound p after (joined older new) (numbered new counts numbers) (left_by new free)
+sound_again p text after lives older numbers free counts new s e f t h =
+    let none = none_patched p new older (subst (λ (ls : List Laid). ArePatched p new ls older) e h) in
+    subst (λ (ls : List Laid). IsSound p after (joined ls new) (numbered new counts numbers) (left_by new free)) (sym none)
+    (sound_by p text after numbers free counts (subst (λ (ls : List Laid). IsSound p text ls numbers free) e s) new f t)
+
+placed_sound : (p : Picture) (text : List TextRange) (lives : List Laid) (numbers : List ℕ) (free : List Range) (plan : List Moved) (new : Option Laid) (q : Patches) (counts : Counts)
+    → IsSound p text lives numbers free → lives ≡ [] → IsPlacement p lives free plan new q
     → IsSound p (texts_with q.text text) (joined (layouts_with q.lives lives) new) (numbered new counts numbers) (left_by new free)
-placed_sound p text lives numbers free plan new q counts s e h u t =
-    subst (λ (ls : List Laid). IsSound p (texts_with q.text text) (joined ls new) (numbered new counts numbers) (left_by new free))
-    (sym (ap (layouts_with q.lives) e ∙ each_none p new q.lives))
-    (sound_by p text numbers free plan q counts (subst (λ (ls : List Laid). IsSound p text ls numbers free) e s) new (subst (λ (ls : List Laid). IsPlacement p ls free plan new q) e h) u t)
+placed_sound p text lives numbers free plan new q counts s e h =
+    let f = fits p new text lives q s.kept s.placed.text s.placed.laid h.aims in
+    sound_again p text (texts_with q.text text) lives (layouts_with q.lives lives) numbers free counts new s e h.fits
+    (patched_text p new text q.text h.aims.of_text f.in_text) (patched_layouts p new lives q.lives h.aims.of_lives f.in_lives)
 
 pub put_sound : (p : Picture) (text : List TextRange) (lives : List Laid) (numbers : List ℕ) (free : List Range) (plan : List Moved) (new : Option Laid) (q : Patches) (counts : Counts)
-    (text1 : List TextRange) (lives1 lives0 : List Laid) (numbers1 numbers0 : List ℕ) (free1 free0 : List Range) (r : Range)
-    → IsSound p text lives numbers free → lives ≡ [] → IsPlacement p lives free plan new q → lives0 ≡ lives → numbers0 ≡ numbers → free0 ≡ free → r ≡ p.region
+    (text1 : List TextRange) (lives1 lives0 : List Laid) (numbers1 numbers0 : List ℕ) (free1 free0 : List Range)
+    → IsSound p text lives numbers free → lives ≡ [] → IsPlacement p lives free plan new q → lives0 ≡ lives → numbers0 ≡ numbers → free0 ≡ free
     → text1 ≡ texts_with q.text text → lives1 ≡ joined (layouts_with q.lives lives0) new → numbers1 ≡ numbered new counts numbers0 → free1 ≡ left_by new free0
-    → Rises r.from r.to free1 → IfSome new (Rest free0 free1) → IsSound p text1 lives1 numbers1 free1
-put_sound p text lives numbers free plan new q counts text1 lives1 lives0 numbers1 numbers0 free1 free0 r s none h el en ef er t1 l1 n1 f1 u t =
+    → IsSound p text1 lives1 numbers1 free1
+put_sound p text lives numbers free plan new q counts text1 lives1 lives0 numbers1 numbers0 free1 free0 s none h el en ef t1 l1 n1 f1 =
     let f : free1 ≡ left_by new free = f1 ∙ ap (left_by new) ef in
-    let up : Rises p.region.from p.region.to (left_by new free) = subst (λ (rs : List Range). Rises p.region.from p.region.to rs) f (subst (λ (x : Range). Rises x.from x.to free1) er u) in
-    let rest : IfSome new (Rest free (left_by new free)) = subst (λ (rs : List Range). IfSome new (Rest rs (left_by new free))) ef (subst (λ (rs : List Range). IfSome new (Rest free0 rs)) f t) in
     subst (λ (x : List TextRange). IsSound p x lives1 numbers1 free1) (sym t1)
     (subst (λ (x : List Laid). IsSound p (texts_with q.text text) x numbers1 free1) (sym (l1 ∙ ap (λ ls. joined (layouts_with q.lives ls) new) el))
     (subst (λ (x : List ℕ). IsSound p (texts_with q.text text) (joined (layouts_with q.lives lives) new) x free1) (sym (n1 ∙ ap (numbered new counts) en))
     (subst (λ (x : List Range). IsSound p (texts_with q.text text) (joined (layouts_with q.lives lives) new) (numbered new counts numbers) x) (sym f)
-    (placed_sound p text lives numbers free plan new q counts s none h up rest))))
+    (placed_sound p text lives numbers free plan new q counts s none h))))
 
 -- ---- what a replacement made
 abbrev put_by : Option Laid → Patches → Replaced → Replaced
@@ -228,8 +231,8 @@ short_new p free (Some l) f = f.short
 
 pub is_replaced : (plan : List Moved) (w v : Replaced) (new : Option Laid) (q : Patches) → IsSound w.image w.text w.lives w.numbers w.free → IsPlacement w.image w.lives w.free plan new q
     → v ≡ record w { text = texts_with q.text w.text; lives = joined (layouts_with q.lives w.lives) new; numbers = numbered new w.counts w.numbers; free = left_by new w.free; counts = done_by new w.counts }
-    → IsSound v.image v.text v.lives v.numbers v.free → IsReplaced plan w v
-is_replaced plan w v new q s h e t =
+    → IsReplaced plan w v
+is_replaced plan w v new q s h e =
     let f = fits w.image new w.text w.lives q s.kept s.placed.text s.placed.laid h.aims in
     record {
       new = new;
@@ -243,7 +246,6 @@ is_replaced plan w v new q s h e t =
       short_words = short_new w.image w.free new h.fits;
       short_calls = short_calls w.image new w.text q.text h.aims.of_text h.short f.in_text;
       is = e;
-      sound = t;
     }
 
 -- ---- what the world stands for

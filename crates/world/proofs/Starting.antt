@@ -1,7 +1,6 @@
 -- A world before its first step.
-use Rattle.std.proofs.Common.{◌≡◌, ℕ, ◌+◌, ◌*◌, ◌%◌, ◌<◌, ◌≤◌, Bool, true, false, cond, not, List, [], ◌∷◌, length, refl, sym, ap, ◌∙◌, subst, arith}
+use Rattle.std.proofs.Common.{◌≡◌, ℕ, ◌%◌, Bool, true, false, List, [], ◌∷◌, refl, arith}
 use Rattle.std.specs.Prelude.{nat_le, nat_lt, ◌&&◌, ◌||◌, All, if◌then◌else◌}
-use Rattle.std.specs.List.{list_any}
 use Rattle.std.proofs.lemmas.Bool.{ltb-true}
 use Rattle.std.proofs.lemmas.Bool.Decides.{nat_tests}
 use Rattle.std.proofs.lemmas.List.Elements.{All-nil, All-cons}
@@ -10,12 +9,11 @@ use Rattle.image.specs.declared.ranges.TextRange.{TextRange}
 use Rattle.image.specs.Picture.{Picture, IsKept}
 use Rattle.layout.specs.Laid.{Laid}
 use Rattle.image.specs.Texts.{word_at}
-use Rattle.layout.specs.Points.{in_range}
 use Rattle.machine.specs.Start.{start_of}
-use Rattle.region.specs.Free.{Rises, is_free, is_in, range, piece}
+use Rattle.region.specs.Free.{Rises, is_free, range, piece}
 use Rattle.sim_laws.proofs.CodeFacts.{code_is}
 use Rattle.sim_laws.proofs.Start.{renders_itself, start_itself}
-use Rattle.world.specs.Worlds.{Replaced, code_of, covers, IsSound, Related, started}
+use Rattle.world.specs.Worlds.{code_of, IsSound, Related, started}
 
 rises_piece : (from to : ℕ) (b : Bool) → nat_lt from to ≡ b → Rises from to (if b then range from to ∷ [] else [])
 rises_piece from to false e = tt

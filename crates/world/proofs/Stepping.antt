@@ -1,5 +1,5 @@
 -- Steps up to a real one, one after another, and real steps one after another.
-use Rattle.std.proofs.Common.{◌≡◌, ◌≢◌, ℕ, zero, suc, ◌+◌, ◌-◌, ◌<◌, Bool, true, false, cond, List, replicate, refl, sym, ap, ◌∙◌, subst, arith, add-one}
+use Rattle.std.proofs.Common.{◌≡◌, ℕ, zero, suc, ◌+◌, ◌-◌, ◌<◌, Bool, true, false, cond, replicate, refl, sym, ap, ◌∙◌, subst, arith, add-one}
 use Rattle.std.specs.Prelude.{is_some}
 use Rattle.guest_sys.specs.State.{IsOrderly}
 use Rattle.machine.specs.Harts.{is_live, hart_in}
@@ -14,7 +14,7 @@ use Rattle.sim_laws.proofs.LayoutSteps.{layout_of}
 use Rattle.sim_laws.proofs.Orderly.{replaced_orderly}
 use Rattle.world.specs.Worlds.{Replaced, code_of, IsSound, Related, kind_of, step_of, counted}
 use Rattle.world.specs.Runs.{is_over, until_real, real_step_of, real_kind_of, real_steps_of}
-use Rattle.world.proofs.Following.{code_sound, ended_stays, ended_over, real_over, real_follows}
+use Rattle.world.proofs.Following.{ended_stays, ended_over, real_over, real_follows}
 
 pub sound_after : (w v : Replaced) (h : ℕ) → v ≡ step_of h w → IsSound w.image w.text w.lives w.numbers w.free → IsSound v.image v.text v.lives v.numbers v.free
 unfolding step_of

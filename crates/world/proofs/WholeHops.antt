@@ -1,7 +1,7 @@
 -- In the words of a plan each Hop goes to a whole word: where a branch goes or falls to, or where a block ends.
-use Rattle.std.proofs.Common.{◌≡◌, ℕ, zero, suc, ◌+◌, ◌%◌, ◌<◌, ◌==◌, Bool, true, false, not, List, [], ◌∷◌, ◌++◌, length, map, get_or, refl, sym, ◌∙◌, subst, ap, arith}
-use Rattle.std.specs.Prelude.{Option, Some, None, slice_get, All, ◌&&◌, if◌then◌else◌, unwrap_or}
-use Rattle.std.specs.List.{flat_map, filter_map, cons_option}
+use Rattle.std.proofs.Common.{◌≡◌, ℕ, zero, suc, ◌+◌, ◌%◌, ◌==◌, Bool, true, false, not, List, [], ◌∷◌, ◌++◌, map, refl, sym, ◌∙◌, subst, ap, arith}
+use Rattle.std.specs.Prelude.{Option, Some, None, slice_get, All, ◌&&◌, if◌then◌else◌}
+use Rattle.std.specs.List.{flat_map, cons_option}
 use Rattle.std.proofs.lemmas.List.Elements.{All-nil, All-cons}
 use Rattle.rv_isa.specs.declared.instr.Cond.{Cond}
 use Rattle.rv_isa.specs.declared.instr.Instr.{Instr}
@@ -16,7 +16,6 @@ use Rattle.blocks.specs.Sound as found
 use Rattle.blocks.proofs.Soundness.{sound}
 use Rattle.plans.specs.declared.plan.Moved.{Moved}
 use Rattle.plans.specs.Given.{plan_fault}
-use Rattle.layout.specs.declared.point.Point.{Point}
 use Rattle.layout.specs.Laid.{Laid}
 use Rattle.layout.specs.Rows.{opposite}
 use Rattle.emit.specs.declared.entry.To.TheVariants.{Over}
@@ -26,7 +25,7 @@ use Rattle.emit.specs.Entries.{Calls, calls_of, entries_of, within, start, mid, 
 use Rattle.emit.specs.Placed.{point_of}
 use Rattle.emit.specs.Emitted.{IsEmitted, plan_unreadable}
 use Rattle.emit.proofs.Leading.{Moving, function_of, emitted}
-use Rattle.emit.proofs.Assembled.{AreReady, ready, moving, entries_are, no_func}
+use Rattle.emit.proofs.Assembled.{AreReady, ready, moving, entries_are}
 use Rattle.plans.proofs.Planned.{planned}
 use Rattle.sim_laws.specs.Codes.{GoesToWord}
 

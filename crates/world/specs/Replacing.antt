@@ -20,10 +20,9 @@ use Rattle.patcher.specs.Reach as reach
 use Rattle.region.specs.Free.{AreFree, fit, largest, taken}
 use Rattle.sched_log.specs.declared.facts.Refusal.{Refusal}
 use Rattle.sched_log.specs.declared.facts.Refusal.TheVariants as refusal
-use Rattle.sched_log.specs.declared.facts.Refused.{Refused}
 use Rattle.sim_laws.specs.Codes.{GoesToWord}
 use Rattle.world.specs.declared.counts.Counts.{Counts}
-use Rattle.world.specs.Worlds.{Replaced, IsSound, more}
+use Rattle.world.specs.Worlds.{Replaced, more}
 
 -- how many bytes the layout of a plan has
 unfoldable pub size_of : Picture → List Moved → ℕ
@@ -107,8 +106,7 @@ abbrev pub left_by : Option Laid → List Range → List Range
 left_by None free = free
 left_by (Some l) free = taken l.base (l.base + 4 * length l.words) free
 
--- The layout is made, and every call of text and of the live layouts is sent to it, or back to original code; so the code renders the
--- image again.
+-- The layout is made, and every call of text and of the live layouts is sent to it, or back to original code.
 pub record IsReplaced (plan : List Moved) (w v : Replaced) : Type 0 where
   pub new : Option Laid
   pub text : List TextRange
@@ -128,7 +126,6 @@ pub record IsReplaced (plan : List Moved) (w v : Replaced) : Type 0 where
     free = left_by new w.free;
     counts = done_by new w.counts;
   }
-  pub sound : IsSound v.image v.text v.lives v.numbers v.free
 
 -- a refused attempt is counted and kept with its number, and nothing else is changed
 abbrev pub refused_as : Refusal → Replaced → Replaced

@@ -1,6 +1,7 @@
 -- Steps up to a real one, and runs with the harts of their real steps. Source: this project.
-use Rattle.std.specs.Prelude.{◌≡◌, ℕ, zero, suc, Bool, true, false, List, [], ◌∷◌, ◌++◌, if◌then◌else◌}
+use Rattle.std.specs.Prelude.{◌≡◌, ℕ, zero, suc, Bool, true, false, List, [], ◌∷◌, ◌++◌, None, if◌then◌else◌}
 use Rattle.plans.specs.declared.plan.Moved.{Moved}
+use Rattle.plans.specs.Given.{plan_fault}
 use Rattle.link_tags.specs.declared.value.Value.{Value}
 use Rattle.machine.specs.Harts.{hart_in}
 use Rattle.machine.specs.Steps.{with_hart}
@@ -57,11 +58,11 @@ pub data Atom : Type 0 where
   a_real_step : (h : ℕ) → Atom
   a_replacement : (plan : List Moved) → Atom
 
--- the world v is w after this; code is moved where no layout is live
+-- the world v is w after this; code is moved by a plan of the image, where no layout is live
 abbrev pub Makes : Atom → Replaced → Replaced → Type 0
 Makes (a_step h) w v = v ≡ step_of h w
 Makes (a_real_step h) w v = v ≡ real_step_of h w
-Makes (a_replacement plan) w v = (w.lives ≡ []) × Replaces plan w v
+Makes (a_replacement plan) w v = (plan_fault w.image plan ≡ None) × (w.lives ≡ []) × Replaces plan w v
 
 abbrev pub of_real : Stepped → ℕ → List ℕ
 of_real k h = if is_real k then h ∷ [] else []

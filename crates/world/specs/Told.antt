@@ -1,5 +1,5 @@
 -- What is told of a world. Source: this project.
-use Rattle.std.specs.Prelude.{ℕ, ◌+◌, Bool, not, ◌==◌, ◌&&◌, List, [], ◌∷◌, length, map, Option}
+use Rattle.std.specs.Prelude.{ℕ, ◌+◌, ◌-◌, Bool, not, ◌==◌, ◌&&◌, List, [], ◌∷◌, length, map}
 use Rattle.std.specs.List.{count_by, list_any}
 use Rattle.std.specs.Option.{option_eq}
 use Rattle.image.specs.declared.ranges.Aim.{Aim}
@@ -49,7 +49,11 @@ abbrev pub layout_facts : List ℕ → List Laid → List LayoutFact
 layout_facts (n ∷ ns) (l ∷ ls) = record { number = n; base = l.base; words = length l.words } ∷ layout_facts ns ls
 layout_facts _ _ = []
 
--- No snapshot has been taken, and no layout given up.
+-- how many layouts were given up: those that were made and aren't live
+abbrev pub retired_in : Replaced → ℕ
+retired_in w = w.counts.placed - length w.lives
+
+-- No snapshot has been taken.
 unfoldable pub facts_of : Replaced → Facts
 facts_of w = record {
   real = w.counts.real;
@@ -57,7 +61,7 @@ facts_of w = record {
   snaps = 0;
   attempts = w.counts.attempts;
   done = w.counts.done;
-  retired = 0;
+  retired = retired_in w;
   refusals = w.refusals;
   sites = changed_in w.image w.text;
   slots = count_by (leads_in w.image.region (links_of w.machine.memory)) w.image.slots;

@@ -68,6 +68,10 @@ pub record IsSound (p : Picture) (text : List TextRange) (lives : List Laid) (nu
   pub whole : All (λ r. r.from % 4 ≡ 0) free
   pub rest : (a : ℕ) → is_free free a ≡ (in_range p.region a && not (list_any (covers a) lives))
 
+-- a world keeps what each world keeps: among the rest, its code renders the image
+abbrev pub IsWorld : Replaced → Type 0
+IsWorld w = IsSound w.image w.text w.lives w.numbers w.free
+
 -- before the first step: no layout is live, all of the region is free, and the text is the image's
 abbrev pub started : Picture → (input : List ℕ) → Replaced
 started p input = record {
@@ -84,7 +88,7 @@ started p input = record {
 -- the world stands for a state of the original machine
 pub record Related (w : Replaced) (o : State) : Type 0 where
   pub states : StatesRelated w.image (code_of w) w.machine o
-  pub sound : IsSound w.image w.text w.lives w.numbers w.free
+  pub sound : IsWorld w
 
 -- ---- one step
 -- a count stays at the greatest number of 64 bits once it is there

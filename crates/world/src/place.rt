@@ -9,7 +9,7 @@ ghost use Rattle.patcher.specs.Patched.{ArePatches};
 ghost use Rattle.patcher.specs.Reach.{AllReach};
 ghost use Rattle.world.specs.Replacing.{is_no_memory, told_as, IsNew, Refuses, ReachRefuses, IsFit, IsPlacement};
 
-use emit::emit::{emit, size_of};
+use emit::draft::Draft;
 use emit::fault::EmitFault;
 use image::picture::Image;
 use layout::layout::Layout;
@@ -81,17 +81,18 @@ fn layout_of(alloc: Global, image: &Image, region: &Region, plan: &Plan) -> Resu
 {
     image.kept();
     region.kept();
-    let need = match size_of(alloc, image, plan) {
-        Ok(need) => need,
+    let draft = match Draft::of(alloc, image, plan) {
+        Ok(draft) => draft,
         Err(fault) => return Err(told_as(fault)),
     };
+    let need = draft.size();
     let Some(base) = region.fit(need) else {
         return Err(Refusal::RegionFull {
             need,
             largest: region.largest(),
         });
     };
-    match emit(alloc, image, plan, base) {
+    match draft.place(alloc, base) {
         Ok(layout) => {
             layout.kept();
             short_words(layout.words());

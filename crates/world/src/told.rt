@@ -1,7 +1,8 @@
 //! What is told of a world.
 
-ghost use Rattle.std.specs.Prelude.{◌≡◌, ◌<◌, ◌+◌, ◌==◌, ◌&&◌, ◌^◌, ℕ, not, All, length, map, Option, IfOk, List};
-ghost use Rattle.std.specs.List.{count_by, list_any};
+ghost use Rattle.std.specs.Prelude.{◌≡◌, ◌<◌, ◌≤◌, ◌+◌, ◌==◌, ◌&&◌, ◌^◌, ℕ, not, All, AllPairs, length, map, Option, IfOk, List};
+ghost use Rattle.std.specs.List.{AllWithin, count_by};
+ghost use Rattle.layout.specs.Points.{in_range};
 ghost use Rattle.sim_laws.specs.Origins.{origin_of};
 ghost use Rattle.world.specs.Worlds.{point_at};
 ghost use Rattle.world.specs.Told.{is_changed, call_changed, changed_in, leads_in, hart_by, layout_facts};
@@ -54,20 +55,38 @@ pub fn changed_in(image: &Image, text: &TextNow) -> u64
     sites + pairs
 }
 
+/// How many of these links stand before an address.
+fn links_before(links: &[(u64, u64)], at: u64) -> usize
+    requires { AllPairs (λ k l. k.0 < l.0) links.now }
+    ensures within { result ≤ length links.now }
+    ensures below { AllWithin (λ l. l.0 < at) links.now 0 result }
+    ensures others { AllWithin (λ l. at ≤ l.0) links.now result (length links.now) }
+{
+    links.partition_point(|l| l.0 < at)
+}
+
+/// Whether a link stands at an address and leads into the region.
+fn is_lead(region: Range, link: (u64, u64), at: u64) -> bool
+    ensures { result ≡ ((link.0 == at) && in_range region link.1) }
+{
+    link.0 == at && is_in(region, link.1)
+}
+
 /// Whether the word at a slot's place is a link into the region.
 fn leads_in(region: Range, links: &[(u64, u64)], s: &Aim) -> bool
+    requires { AllPairs (λ k l. k.0 < l.0) links.now }
     ensures { result ≡ leads_in region links.now s.now }
 {
-    for l in links {
-        if l.0 == s.at && is_in(region, l.1) {
-            return true;
-        }
+    let i = links_before(links, s.at);
+    if i >= links.len() {
+        return false;
     }
-    false
+    is_lead(region, links[i], s.at)
 }
 
 /// How many slots hold a link into the region.
 pub fn slots_in(region: Range, links: &[(u64, u64)], slots: &[Aim]) -> u64
+    requires { AllPairs (λ k l. k.0 < l.0) links.now }
     ensures { result ≡ count_by (leads_in region links.now) slots.now }
 {
     let mut n = 0;

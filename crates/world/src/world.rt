@@ -12,7 +12,7 @@ ghost use Rattle.sim_laws.specs.Steps.{is_layout, original_after};
 ghost use Rattle.world.specs.Worlds.{IsSound, Related, started, kind_of, step_of};
 ghost use Rattle.world.specs.Runs.{moved, IsMoved, real_step_of, real_kind_of, real_steps_of};
 ghost use Rattle.world.specs.Replacing.{Refuses, IsPlacement, IsReplaced, refused_as, RefusedBy, Attempts};
-ghost use Rattle.world.specs.Told.{facts_of};
+ghost use Rattle.world.specs.Told.{retired_in, facts_of};
 
 use crate::code::{is_layout, is_over, kind_in, other_step_in, step_in};
 use crate::counts::{Counts, more};
@@ -160,19 +160,18 @@ impl World {
         self.counts.done
     }
 
-    /// How many layouts were given up: none.
+    /// How many layouts were given up.
     pub fn retired(&self) -> u64
-        ensures { result ≡ 0 }
+        ensures { result ≡ retired_in self.now }
     {
-        let _ = &self.counts;
-        0
+        self.counts.placed.saturating_sub(self.lives.len() as u64)
     }
 
-    /// How many layouts are live: none or one, since code is moved where none is.
-    pub fn live_layouts(&self) -> u32
-        ensures { (result ≡ 0) ↔ (self.now.lives ≡ []) }
+    /// How many layouts are live.
+    pub fn live_layouts(&self) -> usize
+        ensures { result ≡ length self.now.lives }
     {
-        if self.lives.is_empty() { 0 } else { 1 }
+        self.lives.len()
     }
 
     /// What a step of hart `h` would be.
@@ -475,7 +474,7 @@ impl World {
             snaps: 0,
             attempts: self.counts.attempts,
             done: self.counts.done,
-            retired: 0,
+            retired: self.retired(),
             refusals: Items::from_vec(refusals),
             sites: changed_in(&self.image, &self.text),
             slots: slots_in(region, &links, self.image.slots()),

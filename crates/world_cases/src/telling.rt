@@ -1,57 +1,17 @@
 //! Scripts of one hart, and what is told of a world in lines.
 
-ghost use Rattle.std.specs.Prelude.{◌≡◌};
-
-use crate::guests::image_of;
 use blocks::fault::Unreadable;
+use cases::images::image_of;
+use cases::orders::{number, plan_of};
+use cases::rows::split;
 use machine::outcome::Outcome;
-use oc_base::fault::NoMemory;
-use oc_base::items::Items;
-use plans::plan::{Moved, Plan};
 use sched_log::facts::{HartFact, Refusal};
 use std::alloc::{AllocError, Global};
 use std::test::Fail;
 use world::world::World;
 
-fn number(word: &str) -> u32 {
-    let mut number: u32 = 0;
-    for digit in word.bytes() {
-        number = number
-            .wrapping_mul(10)
-            .wrapping_add(u32::from(digit.wrapping_sub(b'0')));
-    }
-    number
-}
-
-/// A part such as `1:2 1 0`.
-fn part_of(alloc: Global, text: &str) -> Result<Moved, AllocError> {
-    let (func, blocks) = text.split_once(':').unwrap_or(("", ""));
-    let mut order = Vec::new(alloc);
-    for block in blocks.split_whitespace() {
-        order.push(number(block))?;
-    }
-    Ok(Moved {
-        func: number(func),
-        order: Items::from_vec(order),
-    })
-}
-
-/// Parts such as `1:2 1 0; 0:0`.
-fn parts_of(alloc: Global, text: &str) -> Result<Vec<Moved>, AllocError> {
-    let mut parts = Vec::new(alloc);
-    for part in text.split("; ") {
-        if !part.is_empty() {
-            parts.push(part_of(alloc, part)?)?;
-        }
-    }
-    Ok(parts)
-}
-
-fn replace(alloc: Global, world: &mut World, text: &str) -> Result<(), Fail> {
-    let parts = parts_of(alloc, text)?;
-    let Ok(plan) = Plan::given(alloc, world.image(), &parts) else {
-        return Err(Fail::new("no plan"));
-    };
+fn replace(alloc: Global, world: &mut World, plan: &str) -> Result<(), Fail> {
+    let plan = plan_of(alloc, world.image(), plan)?;
     if world.live_layouts() != 0 {
         return Err(Fail::new("a layout is live"));
     }
@@ -102,19 +62,19 @@ fn outcome_text(alloc: Global, outcome: Option<Outcome>) -> Result<String, Alloc
     }
 }
 
-fn refusal_text(alloc: Global, attempt: u64, refusal: Refusal) -> Result<String, AllocError> {
+fn unreadable_text(alloc: Global, func: u32, why: Unreadable) -> Result<String, AllocError> {
+    match why {
+        Unreadable::Undecodable(at) => format!(in alloc; "undecodable {func} {at:x}"),
+        _ => String::from_str(alloc, "unreadable"),
+    }
+}
+
+fn refusal_text(alloc: Global, refusal: Refusal) -> Result<String, AllocError> {
     match refusal {
-        Refusal::RegionFull { need, largest } => {
-            format!(in alloc; "refusal {attempt} region {need} {largest}\n")
-        }
-        Refusal::BranchReach { at, target } => {
-            format!(in alloc; "refusal {attempt} reach {at:x} {target:x}\n")
-        }
-        Refusal::Unreadable {
-            func,
-            why: Unreadable::Undecodable(at),
-        } => format!(in alloc; "refusal {attempt} undecodable {func} {at:x}\n"),
-        _ => format!(in alloc; "refusal {attempt} other\n"),
+        Refusal::RegionFull { need, largest } => format!(in alloc; "region {need} {largest}"),
+        Refusal::BranchReach { at, target } => format!(in alloc; "reach {at:x} {target:x}"),
+        Refusal::Unreadable { func, why } => unreadable_text(alloc, func, why),
+        _ => String::from_str(alloc, "other"),
     }
 }
 
@@ -139,7 +99,9 @@ fn told(alloc: Global, world: &World) -> Result<String, Fail> {
         "real {real} layout {layout}\nattempts {attempts} done {done}\nsites {sites} slots {slots}\n"
     )?;
     for refused in facts.refusals.as_slice() {
-        text.push_str(&refusal_text(alloc, refused.attempt, refused.refusal)?)?;
+        let attempt = refused.attempt;
+        let why = refusal_text(alloc, refused.refusal)?;
+        text.push_str(&format!(in alloc; "refusal {attempt} {why}\n")?)?;
     }
     for fact in facts.layouts.as_slice() {
         let (number, base, words) = (fact.number, fact.base, fact.words);
@@ -152,31 +114,37 @@ fn told(alloc: Global, world: &World) -> Result<String, Fail> {
     Ok(text)
 }
 
-/// What is told of a guest after a script, whose commands stand apart by `|`.
-fn after(alloc: Global, guest: &str, page: u64, script: &str) -> Result<String, Fail> {
-    let image = image_of(alloc, guest, page)?;
+/// What is told of a guest after a script, whose commands stand apart by `, `.
+fn after(alloc: Global, guest: &str, script: &str) -> Result<String, Fail> {
+    let image = image_of(alloc, guest)?;
     let Ok(mut world) = World::start(alloc, image, Vec::new(alloc)) else {
         return Err(Fail::new("out of memory"));
     };
-    for command in script.split('|') {
+    for command in script.split(", ") {
         obey(alloc, &mut world, command)?;
     }
     told(alloc, &world)
 }
 
-/// The first of the wanted lines that isn't told, with all that is told.
-pub fn missing<'a>(
-    alloc: Global,
-    guest: &str,
-    page: u64,
-    script: &str,
-    wanted: &'a str,
-) -> Result<Option<(&'a str, String)>, Fail> {
-    let text = after(alloc, guest, page, script)?;
+/// The first line of a row that isn't told, with all that is told.
+fn missing(alloc: Global, row: &str) -> Result<String, Fail> {
+    let (guest, script, wanted) = split(row);
+    let text = after(alloc, guest, script)?;
     for line in wanted.split("; ") {
         if !text.as_str().lines().any(|l| l == line) {
-            return Ok(Some((line, text)));
+            return Ok(format!(in alloc; "{line} in\n{text}")?);
         }
     }
-    Ok(None)
+    Ok(String::new(alloc))
+}
+
+/// What is missing in the first row with a line that isn't told.
+pub fn first_missing(alloc: Global, rows: &str) -> Result<String, Fail> {
+    for row in rows.lines() {
+        let text = missing(alloc, row)?;
+        if !text.is_empty() {
+            return Ok(format!(in alloc; "{row}: {text}")?);
+        }
+    }
+    Ok(String::new(alloc))
 }

@@ -1,4 +1,4 @@
-use Rattle.std.proofs.Common.{◌≡◌, ◌∙◌, ap, get_or, sym, arith}
+use Rattle.std.proofs.Common.{ap, sym, arith}
 use Rattle.finite.proofs.Searching.{covered}
 use Rattle.finite.proofs.search.place_near.Goals as goal
 

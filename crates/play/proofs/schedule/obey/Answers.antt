@@ -1,4 +1,4 @@
-use Rattle.std.proofs.Common.{[], refl, replicate, subst, sym}
+use Rattle.std.proofs.Common.{[], replicate, subst, sym}
 use Rattle.std.proofs.lemmas.Result.{on_ok_weaker}
 use Rattle.world.specs.Runs.{a_real_step, a_replacement}
 use Rattle.play.specs.Events.{atoms_of, Runs}
@@ -16,4 +16,4 @@ returns-in-Given c =
     let can : CanMove c.in-Given.plan c.args.world.now = subst (λ e. CanObey e c.args.world.now) c.in-Given.is c.requires in
     on_ok_weaker c.replace.result (λ is.
     subst (λ e. Runs (atoms_of e c.args.world.now) c.args.world.now c.replace.new.world) (sym c.in-Given.is)
-    (runs_cons (a_replacement c.in-Given.plan) [] c.args.world.now c.replace.new.world c.replace.new.world (can.alone, is) (runs_none c.replace.new.world))) c.replace.ensures
+    (runs_cons (a_replacement c.in-Given.plan) [] c.args.world.now c.replace.new.world c.replace.new.world (can.fine, can.alone, is) (runs_none c.replace.new.world))) c.replace.ensures

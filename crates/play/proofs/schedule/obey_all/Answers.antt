@@ -10,5 +10,5 @@ loop-event-preserved c =
     record {
       ready = ready_after c.args.events.now c.loop-event.event-index c.event-item.result c.loop-event.world c.obey.new.world c.loop-event-test.true c.loop-event.invariant.ready run;
       rest = λ v more. c.loop-event.invariant.rest v
-          (events_left c.args.events.now c.loop-event.event-index c.event-item.result c.loop-event.world c.obey.new.world v c.loop-event-test.true run c.kept.ensures.code more);
+          (events_left c.args.events.now c.loop-event.event-index c.event-item.result c.loop-event.world c.obey.new.world v c.loop-event-test.true run more);
     }

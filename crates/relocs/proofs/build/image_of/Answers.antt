@@ -1,9 +1,10 @@
-use Rattle.std.proofs.Common.{refl}
+use Rattle.std.proofs.Common.{map, refl}
 use Rattle.finite.proofs.Arranged.{keys_rise}
 use Rattle.image.specs.Aims.{part_start, part_end, site_at, pair_at, slot_at}
-use Rattle.relocs.specs.Named.{is_call, is_far, is_stored}
+use Rattle.relocs.specs.Named.{aim_entry, is_call, is_far, is_stored}
 use Rattle.relocs.specs.Built.{parts_of}
 use Rattle.relocs.proofs.Builds.{aims_known, aims_rise}
+use Rattle.relocs.proofs.DistinctLemmas.{aims_same}
 use Rattle.relocs.proofs.PartLemmas.{some_parts}
 use Rattle.relocs.proofs.build.image_of.Goals as goal
 
@@ -12,11 +13,12 @@ of-requires c =
     let lines = c.as_slice-lines.ensures.value in
     let pieces = c.as_slice-data.ensures.value in
     let code = c.as_slice-code.ensures.value in
+    let relocs = c.as_slice-relocs.ensures.value in
     let ts = c.args.texts.items in
     let ps = c.in_ok-parts.parts.items in
     let fs = c.in_ok-funcs.funcs.items in
-    let rs = c.as_slice-relocs.result.now in
-    let ss = c.as_slice-symbols.result.now in
+    let rs = c.in_ok-entries.entries.items in
+    let ss = c.args.elf.now.symbols in
     record {
       texts_fit = rw lines at c.text_laws.ensures.fit;
       texts_rise = rw lines at c.text_laws.ensures.rise;
@@ -32,12 +34,12 @@ of-requires c =
       funcs_fit = rw (lines, code) at c.func_laws.ensures.fit;
       funcs_rise = rw code at c.func_laws.ensures.rise;
       few_funcs = rw code at c.func_laws.ensures.few;
-      sites_rise = aims_rise is_call (site_at ts fs) rs c.in_ok-sites.sites.items (rw (lines, code) at c.in_ok-sites.ensures);
-      sites_call = aims_known is_call (site_at ts fs) rs c.in_ok-sites.sites.items (rw (lines, code) at c.in_ok-sites.ensures);
-      pairs_rise = aims_rise is_far (pair_at ts fs c.args.elf.now.entry) rs c.in_ok-pairs.pairs.items (rw (lines, code) at c.in_ok-pairs.ensures);
-      pairs_call = aims_known is_far (pair_at ts fs c.args.elf.now.entry) rs c.in_ok-pairs.pairs.items (rw (lines, code) at c.in_ok-pairs.ensures);
-      slots_rise = aims_rise (is_stored ss ps) (slot_at ps fs) rs c.in_ok-slots.slots.items (rw (pieces, code) at c.in_ok-slots.ensures);
-      slots_name = aims_known (is_stored ss ps) (slot_at ps fs) rs c.in_ok-slots.slots.items (rw (pieces, code) at c.in_ok-slots.ensures);
+      sites_rise = aims_rise is_call (site_at ts fs) rs c.in_ok-sites.sites.items (rw (lines, code, relocs) at c.in_ok-sites.ensures);
+      sites_call = aims_known is_call (site_at ts fs) rs c.in_ok-sites.sites.items (rw (lines, code, relocs) at c.in_ok-sites.ensures);
+      pairs_rise = aims_rise is_far (pair_at ts fs c.args.elf.now.entry) rs c.in_ok-pairs.pairs.items (rw (lines, code, relocs) at c.in_ok-pairs.ensures);
+      pairs_call = aims_known is_far (pair_at ts fs c.args.elf.now.entry) rs c.in_ok-pairs.pairs.items (rw (lines, code, relocs) at c.in_ok-pairs.ensures);
+      slots_rise = aims_rise (is_stored ss ps) (slot_at ps fs) rs c.in_ok-slots.slots.items (rw (pieces, code, relocs) at c.in_ok-slots.ensures);
+      slots_name = aims_known (is_stored ss ps) (slot_at ps fs) rs c.in_ok-slots.slots.items (rw (pieces, code, relocs) at c.in_ok-slots.ensures);
     }
 
 pub returns : goal.returns
@@ -47,8 +49,13 @@ returns c =
     let pieces = c.as_slice-data.ensures.value in
     let code = c.as_slice-code.ensures.value in
     let segments = c.as_slice-segments.ensures in
-    let symbols = c.as_slice-symbols.ensures in
-    let relocs = c.as_slice-relocs.ensures in
+    let relocs = c.as_slice-relocs.ensures.value in
+    let ts = c.args.texts.items in
+    let ps = c.in_ok-parts.parts.items in
+    let fs = c.in_ok-funcs.funcs.items in
+    let rs = c.in_ok-entries.entries.items in
+    let all = c.args.elf.now.relocs in
+    let same = c.in_ok-entries.ensures in
     rw c.of.ensures (record {
       texts = record { same = c.requires.same; rise = rw lines at c.text_laws.ensures.starts };
       parts = record {
@@ -57,9 +64,9 @@ returns c =
       };
       entry = refl;
       region = refl;
-      funcs = rw (lines, symbols) at c.in_ok-funcs.ensures;
-      sites = rw (lines, code, relocs) at c.in_ok-sites.ensures;
-      pairs = rw (lines, code, relocs) at c.in_ok-pairs.ensures;
-      slots = rw (pieces, code, symbols, relocs) at c.in_ok-slots.ensures;
+      funcs = rw lines at c.in_ok-funcs.ensures;
+      sites = aims_same is_call (site_at ts fs) rs all (map aim_entry c.in_ok-sites.sites.items) same (rw (lines, code, relocs) at c.in_ok-sites.ensures);
+      pairs = aims_same is_far (pair_at ts fs c.args.elf.now.entry) rs all (map aim_entry c.in_ok-pairs.pairs.items) same (rw (lines, code, relocs) at c.in_ok-pairs.ensures);
+      slots = aims_same (is_stored c.args.elf.now.symbols ps) (slot_at ps fs) rs all (map aim_entry c.in_ok-slots.slots.items) same (rw (pieces, code, relocs) at c.in_ok-slots.ensures);
       headers = c.headers_of-headers.ensures;
     })

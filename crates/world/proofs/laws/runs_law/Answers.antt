@@ -1,5 +1,8 @@
-use Rattle.world.proofs.Running.{run_follows, stretch_follows}
+use Rattle.world.proofs.Running.{run_sound, run_follows, stretch_follows}
 use Rattle.world.proofs.laws.runs_law.Goals as goal
+
+pub returns-clause-sound : goal.returns-clause-sound
+returns-clause-sound c = run_sound
 
 pub returns-clause-follows : goal.returns-clause-follows
 returns-clause-follows c = run_follows

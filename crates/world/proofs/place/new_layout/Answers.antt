@@ -1,4 +1,3 @@
-use Rattle.std.proofs.Common.{sym, subst}
 use Rattle.world.specs.Replacing.{no_layout}
 use Rattle.world.proofs.Placing.{none_unreadable}
 use Rattle.world.proofs.place.new_layout.Goals as goal

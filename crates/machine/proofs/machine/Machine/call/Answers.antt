@@ -20,5 +20,5 @@ invariant_of-self-2 g c =
     let s = c.self.inside.system in
     let effect = c.in-Ok.effect in
     let made = call_makes origin (seen origin m) m.readable m.writable s c.syscall.new.sys m c.syscall.new.mem.contents c.args.h c.at.result.now.clear c.arguments_of-arguments.result effect c.in-Ok.ensures in
-    ap (λ (hs : List Hart). length hs) c.finish_call-self-inside.ensures.harts
+    c.set_waiting.ensures.made ∙ ap (λ (hs : List Hart). length hs) c.finish_call-self-inside.ensures.harts
     ∙ replied_length c.args.h effect.reply _ s.made c.syscall.new.sys.made made (shared_length effect.woken effect.written c.self.inside.harts ∙ c.self.invariant)
