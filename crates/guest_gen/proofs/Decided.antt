@@ -9,8 +9,7 @@ use Rattle.guest_gen.specs.declared.decision.Refusal.{Refusal}
 use Rattle.guest_gen.specs.declared.decision.Refusal.TheVariants.{Usage, ReadFault, TooLong, Fault, NoMemory}
 use Rattle.guest_gen.specs.declared.words.Form.{Form}
 use Rattle.guest_gen.specs.declared.words.Form.TheVariants.{Assemble, Generate}
-use Rattle.guest_gen.specs.declared.TheConstants.{TEXT_LIMIT}
-use Rattle.guest_gen.specs.Decision.{within, Assembles, Generates, Decides, DecidesIn, DecidesRead, named, names_of}
+use Rattle.guest_gen.specs.Decision.{text_limit, within, Assembles, Generates, Decides, DecidesIn, DecidesRead, named, names_of}
 use Rattle.guest_gen.specs.Words.{form_of, inputs_of, output_of}
 use Rattle.guest_gen.specs.Cause.{Reason, Because, InputFailed, Decided, Formed, IsQuiet}
 
@@ -22,7 +21,7 @@ pub decides-usage : (words : List (List ℕ)) (disk : Disk) (r : Refusal) → fo
 decides-usage words disk r form = by_form words disk (Err r) (Err r) form refl
 
 -- by what was read
-by_text : (words : List (List ℕ)) (disk : Disk) (i o : List ℕ) (read : Result (List ℕ) Refusal) (d : Result NewFile Refusal) → form_of words ≡ Ok (Assemble i o) → within i TEXT_LIMIT (disk i) ≡ read → DecidesRead read o d → Decides words disk d
+by_text : (words : List (List ℕ)) (disk : Disk) (i o : List ℕ) (read : Result (List ℕ) Refusal) (d : Result NewFile Refusal) → form_of words ≡ Ok (Assemble i o) → within i text_limit (disk i) ≡ read → DecidesRead read o d → Decides words disk d
 by_text words disk i o read d form input decides = by_form words disk (Ok (Assemble i o)) d form (subst (λ r. DecidesRead r o d) (sym input) decides)
 
 -- A reason of a step is one of the whole.
@@ -44,13 +43,13 @@ input_failed : (words : List (List ℕ)) (asked : Option (List (List ℕ))) (bef
 input_failed words asked before now i o name form failed = record { output = o; first = form ∙ ap (λ x. Ok (Assemble x o)) (sym failed.0); failed = failed.1 }
 
 -- the text was refused
-pub why_input : (words : List (List ℕ)) (told : Option Disk) (asked : Option (List (List ℕ))) (before now : ℕ) (i o : List ℕ) (r : Refusal) → form_of words ≡ Ok (Assemble i o) → Reason ⊥ (λ name. (name ≡ i) × TakeFailed name asked before now) (λ r. ForSome told (λ disk. within i TEXT_LIMIT (disk i) ≡ Err r)) r → Decided words told asked before now (Err r)
+pub why_input : (words : List (List ℕ)) (told : Option Disk) (asked : Option (List (List ℕ))) (before now : ℕ) (i o : List ℕ) (r : Refusal) → form_of words ≡ Ok (Assemble i o) → Reason ⊥ (λ name. (name ≡ i) × TakeFailed name asked before now) (λ r. ForSome told (λ disk. within i text_limit (disk i) ≡ Err r)) r → Decided words told asked before now (Err r)
 why_input words told asked before now i o r form why =
-    Reason-of_step {fault = λ name. (name ≡ i) × TakeFailed name asked before now} {fault' = λ name. InputFailed words name asked before now} {is = λ r. ForSome told (λ disk. within i TEXT_LIMIT (disk i) ≡ Err r)} {is' = λ r. ForSome told (λ disk. Decides words disk (Err r))}
+    Reason-of_step {fault = λ name. (name ≡ i) × TakeFailed name asked before now} {fault' = λ name. InputFailed words name asked before now} {is = λ r. ForSome told (λ disk. within i text_limit (disk i) ≡ Err r)} {is' = λ r. ForSome told (λ disk. Decides words disk (Err r))}
     r absurd (λ name failed. input_failed words asked before now i o name form failed) (λ r is. λ disk tells. by_text words disk i o (Err r) (Err r) form (is disk tells) refl) why
 
 -- what the text stands for
-pub why_text : (words : List (List ℕ)) (told : Option Disk) (asked : Option (List (List ℕ))) (before now : ℕ) (i o text : List ℕ) (d : Result NewFile Refusal) → form_of words ≡ Ok (Assemble i o) → ForSome told (λ disk. within i TEXT_LIMIT (disk i) ≡ Ok text) → Because ⊥ (λ name. ⊥) (Assembles text o) d → Decided words told asked before now d
+pub why_text : (words : List (List ℕ)) (told : Option Disk) (asked : Option (List (List ℕ))) (before now : ℕ) (i o text : List ℕ) (d : Result NewFile Refusal) → form_of words ≡ Ok (Assemble i o) → ForSome told (λ disk. within i text_limit (disk i) ≡ Ok text) → Because ⊥ (λ name. ⊥) (Assembles text o) d → Decided words told asked before now d
 why_text words told asked before now i o text (Ok file) form input why = λ disk tells. by_text words disk i o (Ok text) (Ok file) form (input disk tells) why
 why_text words told asked before now i o text (Err r) form input why =
     Reason-of_step {fault = λ name. ⊥} {fault' = λ name. InputFailed words name asked before now} {is = λ r. Assembles text o (Err r)} {is' = λ r. ForSome told (λ disk. Decides words disk (Err r))}

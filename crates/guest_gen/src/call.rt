@@ -5,7 +5,7 @@ ghost use Rattle.std.specs.Option.{ForSome};
 ghost use Rattle.oc_base.specs.Outside.{Rose, Asks, Disk, GainedPart, TakeFailed};
 ghost use Rattle.guest_gen.specs.Answer.{status_of};
 ghost use Rattle.guest_gen.specs.Cause.{Because, Reason, InputFailed, Decided, Formed, held, FileWritten, FileEnds, Ends, Delivered, Settles, AsksFor, AllDone};
-ghost use Rattle.guest_gen.specs.Decision.{within, Assembles, Generates, said_of, Decides, names_of};
+ghost use Rattle.guest_gen.specs.Decision.{text_limit, within, Assembles, Generates, said_of, Decides, names_of};
 ghost use Rattle.guest_gen.specs.Words.{form_of};
 ghost use Rattle.guest_gen.specs.declared.answer.MadeWhat.{MadeWhat};
 ghost use Rattle.guest_gen.specs.declared.decision.NewFile.{NewFile};
@@ -29,11 +29,11 @@ use std::alloc::{AllocError, Global};
 
 // The whole text within its limit.
 fn fetch<F: Files>(alloc: Global, files: &mut F, name: &str) -> Result<Vec<u8>, Refusal>
-    ensures bytes { IfOk result (λ bytes. ForSome (F.disk files.old) (λ disk. within name.now TEXT_LIMIT (disk name.now) ≡ Ok bytes.items)) }
-    ensures short { IfOk result (λ bytes. length bytes.items ≤ TEXT_LIMIT) }
+    ensures bytes { IfOk result (λ bytes. ForSome (F.disk files.old) (λ disk. within name.now text_limit (disk name.now) ≡ Ok bytes.items)) }
+    ensures short { IfOk result (λ bytes. length bytes.items ≤ text_limit) }
     ensures refusal { IfErr result (Reason ⊥
         (λ given. (given ≡ name.now) × TakeFailed given (F.asked files.new) (F.take_faults files.old) (F.take_faults files.new))
-        (λ refusal. ForSome (F.disk files.old) (λ disk. within name.now TEXT_LIMIT (disk name.now) ≡ Err refusal))) }
+        (λ refusal. ForSome (F.disk files.old) (λ disk. within name.now text_limit (disk name.now) ≡ Err refusal))) }
     ensures asked { Asks Refusal.NoMemory (F.asked files.old) (F.asked files.new) name.now result }
     ensures disk { F.disk files.new ≡ F.disk files.old }
     ensures takes { F.take_faults files.old ≤ F.take_faults files.new }
@@ -59,7 +59,7 @@ fn fetch<F: Files>(alloc: Global, files: &mut F, name: &str) -> Result<Vec<u8>, 
 
 // The file of the text's program.
 fn file_of(alloc: Global, text: &[u8], name: Text) -> Result<NewFile, Refusal>
-    requires { length text.now ≤ TEXT_LIMIT }
+    requires { length text.now ≤ text_limit }
     ensures { Because ⊥ (λ _. ⊥) (Assembles text.now name) result }
 {
     let program = match assemble(alloc, text) {
