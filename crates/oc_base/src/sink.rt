@@ -8,8 +8,8 @@ pub trait Sink {
     /// The bytes that it holds, where it tells.
     ghost holds: { Self → Option (List ℕ) };
 
-    /// How often a write has failed.
-    ghost faults: { Self → ℕ };
+    /// How often a write has failed, unless none can.
+    ghost faults: { Self → Option ℕ };
 
     /// Puts some first bytes of the piece, at least one, behind what the sink holds,
     /// and answers how many. A device that takes none has failed.
