@@ -2,7 +2,7 @@
 use Rattle.std.proofs.Common.{◌≡◌, ◌≢◌, ◌⊎◌, inl, inr, ℕ, zero, suc, List, [], ◌∷◌, length, take, Option, Some, Result, Ok, Err, refl, ap, sym, subst, ◌∙◌, arith}
 use Rattle.std.specs.Prelude.{IsErr}
 use Rattle.std.proofs.lemmas.List.{take_all}
-use Rattle.oc_base.specs.Outside.{Disk, Rose, gained, GainedPart}
+use Rattle.oc_base.specs.Outside.{Disk, Rose, LacksFile, Misses, gained, GainedPart}
 use Rattle.guest_gen.specs.declared.answer.MadeWhat.{MadeWhat}
 use Rattle.guest_gen.specs.declared.answer.MadeWhat.TheVariants as made
 use Rattle.guest_gen.specs.declared.decision.NewFile.{NewFile}
@@ -13,8 +13,8 @@ use Rattle.guest_gen.specs.declared.words.Form.TheVariants.{Assemble, Generate}
 use Rattle.guest_gen.specs.Answer.{what_of}
 use Rattle.guest_gen.specs.Decision.{Decides, read, named, read_of, names_of}
 use Rattle.guest_gen.specs.Words.{form_of}
-use Rattle.guest_gen.specs.Cause.{Decided, AskedFor, Asked, AskedBy, Held, AllWritten, WriteFailed, Ends, Settles, AsksFor, AllDone}
-use Rattle.guest_gen.proofs.Decided.{decides-usage, gained-none}
+use Rattle.guest_gen.specs.Cause.{InputFailed, Decided, AskedFor, Asked, AskedBy, Held, AllWritten, WriteFailed, Ends, Settles, AsksFor, AllDone}
+use Rattle.guest_gen.proofs.Decided.{decides-usage, decides-missing, gained-none}
 
 -- All was written, or a device failed.
 abbrev Both : Result NewFile Refusal → (was now : Held) (put_fault out_fault err_fault : Type 0) → MadeWhat → Type 0
@@ -40,7 +40,7 @@ three d was now pf of ef what (inr wrote) = inr (both_of d was now pf of ef what
 asks : (words : List (List ℕ)) (disk : Disk) (d : Result NewFile Refusal) → Decides words disk d → AsksFor words disk (what_of d)
 asks words disk d decides = record { decision = d; decided = decides; answered = refl }
 
-decided_settles : (words : List (List ℕ)) (told : Option Disk) (asked : Option (List (List ℕ))) (before now : ℕ) (disk : Disk) (d : Result NewFile Refusal) → told ≡ Some disk → Decided words told asked before now d → Settles (AsksFor words disk) (what_of d)
+decided_settles : (words : List (List ℕ)) (told : Option Disk) (asked : Option (List (List ℕ))) (before now : Option ℕ) (disk : Disk) (d : Result NewFile Refusal) → told ≡ Some disk → Decided words told asked before now d → Settles (AsksFor words disk) (what_of d)
 decided_settles words told asked before now disk (Ok file) tells why = asks words disk (Ok file) (why disk tells)
 decided_settles words told asked before now disk (Err Usage) tells why = asks words disk (Err Usage) (decides-usage words disk Usage why)
 decided_settles words told asked before now disk (Err (ReadFault name)) tells why = tt
@@ -49,22 +49,31 @@ decided_settles words told asked before now disk (Err (TooLong name)) tells why 
 decided_settles words told asked before now disk (Err (Fault line kind)) tells why = asks words disk (Err (Fault line kind)) (why disk tells)
 
 -- so is the answer, but for a fault and for want of memory
-pub answer_settles : (words : List (List ℕ)) (told : Option Disk) (asked : Option (List (List ℕ))) (before now : ℕ) (disk : Disk) (d : Result NewFile Refusal) (was now' : Held) (pf of ef : Type 0) (what : MadeWhat) → told ≡ Some disk → Decided words told asked before now d → Three d was now' pf of ef what → Settles (AsksFor words disk) what
+pub answer_settles : (words : List (List ℕ)) (told : Option Disk) (asked : Option (List (List ℕ))) (before now : Option ℕ) (disk : Disk) (d : Result NewFile Refusal) (was now' : Held) (pf of ef : Type 0) (what : MadeWhat) → told ≡ Some disk → Decided words told asked before now d → Three d was now' pf of ef what → Settles (AsksFor words disk) what
 answer_settles words told asked before now disk d was now' pf of ef what tells why (inl full) = subst (Settles (AsksFor words disk)) (sym full) tt
 answer_settles words told asked before now disk d was now' pf of ef what tells why (inr (inl all)) = subst (Settles (AsksFor words disk)) (sym all.0) (decided_settles words told asked before now disk d tells why)
 answer_settles words told asked before now disk d was now' pf of ef what tells why (inr (inr failed)) = subst (Settles (AsksFor words disk)) (sym failed.0) tt
 
+-- with no fault the text that couldn't be read is missing
+missing_in : (words : List (List ℕ)) (told : Option Disk) (before now : Option ℕ) (disk : Disk) (i o : List ℕ) → told ≡ Some disk → form_of words ≡ Ok (Assemble i o) → Misses told i before now → (Rose before now → ⊥) → Decides words disk (Err (ReadFault i))
+missing_in words told before now disk i o tells form (inl rose) quiet = absurd (quiet rose)
+missing_in words told before now disk i o tells form (inr misses) quiet =
+    decides-missing words disk i o form (subst (λ t. LacksFile t i) tells misses.1)
+
+missing : (words : List (List ℕ)) (told : Option Disk) (asked : Option (List (List ℕ))) (before now : Option ℕ) (disk : Disk) (name : List ℕ) → told ≡ Some disk → InputFailed words name told asked before now → (Rose before now → ⊥) → Decides words disk (Err (ReadFault name))
+missing words told asked before now disk name tells why quiet = missing_in words told before now disk name why.output tells why.first why.failed.why quiet
+
 -- with no fault and with memory a decision is what is asked for
-decided_whole : (words : List (List ℕ)) (told : Option Disk) (asked : Option (List (List ℕ))) (before now : ℕ) (disk : Disk) (d : Result NewFile Refusal) → told ≡ Some disk → Decided words told asked before now d → (Rose before now → ⊥) → what_of d ≢ made.NoMemory → Decides words disk d
+decided_whole : (words : List (List ℕ)) (told : Option Disk) (asked : Option (List (List ℕ))) (before now : Option ℕ) (disk : Disk) (d : Result NewFile Refusal) → told ≡ Some disk → Decided words told asked before now d → (Rose before now → ⊥) → what_of d ≢ made.NoMemory → Decides words disk d
 decided_whole words told asked before now disk (Ok file) tells why quiet memory = why disk tells
 decided_whole words told asked before now disk (Err Usage) tells why quiet memory = decides-usage words disk Usage why
-decided_whole words told asked before now disk (Err (ReadFault name)) tells why quiet memory = absurd (quiet why.failed.rose)
+decided_whole words told asked before now disk (Err (ReadFault name)) tells why quiet memory = missing words told asked before now disk name tells why quiet
 decided_whole words told asked before now disk (Err NoMemory) tells why quiet memory = absurd (memory refl)
 decided_whole words told asked before now disk (Err (TooLong name)) tells why quiet memory = why disk tells
 decided_whole words told asked before now disk (Err (Fault line kind)) tells why quiet memory = why disk tells
 
 -- and all of it is written
-pub answer_whole : (words : List (List ℕ)) (told : Option Disk) (asked : Option (List (List ℕ))) (before now : ℕ) (disk : Disk) (d : Result NewFile Refusal) (was now' : Held) (pf of ef : Type 0) (what : MadeWhat) → told ≡ Some disk → Decided words told asked before now d → Three d was now' pf of ef what → (Rose before now → ⊥) → (pf → ⊥) → (of → ⊥) → (ef → ⊥) → what ≢ made.NoMemory → AllDone words disk was now' what
+pub answer_whole : (words : List (List ℕ)) (told : Option Disk) (asked : Option (List (List ℕ))) (before now : Option ℕ) (disk : Disk) (d : Result NewFile Refusal) (was now' : Held) (pf of ef : Type 0) (what : MadeWhat) → told ≡ Some disk → Decided words told asked before now d → Three d was now' pf of ef what → (Rose before now → ⊥) → (pf → ⊥) → (of → ⊥) → (ef → ⊥) → what ≢ made.NoMemory → AllDone words disk was now' what
 answer_whole words told asked before now disk d was now' pf of ef what tells why (inl full) quiet_files quiet_put quiet_out quiet_err memory = absurd (memory full)
 answer_whole words told asked before now disk d was now' pf of ef what tells why (inr (inl all)) quiet_files quiet_put quiet_out quiet_err memory =
     record { decision = d; decided = decided_whole words told asked before now disk d tells why quiet_files (λ none. memory (all.0 ∙ none)); written = all.1 }
@@ -107,7 +116,7 @@ asked_failed words was now (Ok file) what (inr part) = part_of_names words was n
 asked_failed words was now (Err r) what asked = part_of_names words was now (part_of_read words was now (Err r) asked)
 
 -- where all was written
-asked_whole : (words : List (List ℕ)) (told : Option Disk) (names was now : Option (List (List ℕ))) (before after : ℕ) (d : Result NewFile Refusal) → d ≢ Err NoMemory → Decided words told names before after d → Asked words was now d (what_of d) → AskedBy words was now (what_of d)
+asked_whole : (words : List (List ℕ)) (told : Option Disk) (names was now : Option (List (List ℕ))) (before after : Option ℕ) (d : Result NewFile Refusal) → d ≢ Err NoMemory → Decided words told names before after d → Asked words was now d (what_of d) → AskedBy words was now (what_of d)
 asked_whole words told names was now before after (Ok file) memory why (inl all) = all
 asked_whole words told names was now before after (Ok file) memory why (inr part) = let other = part.0 in cc
 asked_whole words told names was now before after (Err Usage) memory why all = all ∙ ap (λ f. gained was (read f)) why ∙ gained-none was
@@ -116,14 +125,14 @@ asked_whole words told names was now before after (Err (TooLong name)) memory wh
 asked_whole words told names was now before after (Err (Fault line kind)) memory why all = all
 asked_whole words told names was now before after (Err NoMemory) memory why all = absurd (memory refl)
 
-asked_wrote : (words : List (List ℕ)) (told : Option Disk) (names was now : Option (List (List ℕ))) (before after : ℕ) (d : Result NewFile Refusal) (then now' : Held) (pf of ef : Type 0) (what : MadeWhat) → d ≢ Err NoMemory → Decided words told names before after d → Asked words was now d what → Both d then now' pf of ef what → AskedBy words was now what
+asked_wrote : (words : List (List ℕ)) (told : Option Disk) (names was now : Option (List (List ℕ))) (before after : Option ℕ) (d : Result NewFile Refusal) (then now' : Held) (pf of ef : Type 0) (what : MadeWhat) → d ≢ Err NoMemory → Decided words told names before after d → Asked words was now d what → Both d then now' pf of ef what → AskedBy words was now what
 asked_wrote words told names was now before after d then now' pf of ef what memory why asked (inl all) =
     subst (AskedBy words was now) (sym all.0) (asked_whole words told names was now before after d memory why (subst (Asked words was now d) all.0 asked))
 asked_wrote words told names was now before after d then now' pf of ef what memory why asked (inr failed) =
     subst (AskedBy words was now) (sym failed.0) (asked_failed words was now d what asked)
 
 -- at any end
-pub answer_asks : (words : List (List ℕ)) (told : Option Disk) (names was now : Option (List (List ℕ))) (before after : ℕ) (d : Result NewFile Refusal) (then now' : Held) (pf of ef : Type 0) (what : MadeWhat) → Decided words told names before after d → Asked words was now d what → Ends d then now' pf of ef what → AskedBy words was now what
+pub answer_asks : (words : List (List ℕ)) (told : Option Disk) (names was now : Option (List (List ℕ))) (before after : Option ℕ) (d : Result NewFile Refusal) (then now' : Held) (pf of ef : Type 0) (what : MadeWhat) → Decided words told names before after d → Asked words was now d what → Ends d then now' pf of ef what → AskedBy words was now what
 answer_asks words told names was now before after d then now' pf of ef what why asked (inl gave) =
     subst (AskedBy words was now) (sym gave.ended) (asked_full words was now d what gave.refused asked)
 answer_asks words told names was now before after d then now' pf of ef what why asked (inr wrote) =

@@ -1,7 +1,7 @@
 -- Why a call ended as it did, and what it has written by then.
 use Rattle.std.specs.Prelude.{◌≡◌, ◌≢◌, ◌⊎◌, ℕ, List, [], ◌∷◌, Option, Some, None, Result, Ok, Err, IsErr}
 use Rattle.std.specs.Option.{ForSome}
-use Rattle.oc_base.specs.Outside.{Disk, gained, GainedPart, HasNow, SameElsewhere, TakeFailed}
+use Rattle.oc_base.specs.Outside.{Disk, gained, GainedPart, Gains, HasNow, SameElsewhere, TakeFailed}
 use Rattle.guest_gen.specs.declared.answer.MadeWhat.{MadeWhat}
 use Rattle.guest_gen.specs.declared.answer.MadeWhat.TheVariants as made
 use Rattle.guest_gen.specs.declared.decision.NewFile.{NewFile}
@@ -26,16 +26,16 @@ abbrev pub Because : (usage : Type 0) (fault : List ℕ → Type 0) (is : Result
 Because usage fault is (Ok file) = is (Ok file)
 Because usage fault is (Err refusal) = Reason usage fault (λ r. is (Err r)) refusal
 
--- The text could not be read: its name is the first of two words, and the last that the files were asked for.
-pub record InputFailed (words : List (List ℕ)) (name : List ℕ) (asked : Option (List (List ℕ))) (before now : ℕ) : Type 0 where
+-- The text could not be read, or there is none: its name is the first of two words, and the last that the files were asked for.
+pub record InputFailed (words : List (List ℕ)) (name : List ℕ) (told : Option Disk) (asked : Option (List (List ℕ))) (before now : Option ℕ) : Type 0 where
   pub output : List ℕ
   pub first : form_of words ≡ Ok (Assemble name output)
-  pub failed : TakeFailed name asked before now
+  pub failed : TakeFailed name told asked before now
 
 -- This was decided: from the words, what the files tell, the names that they were asked for, and their count of faults before and now.
-abbrev pub Decided : (words : List (List ℕ)) (told : Option Disk) (asked : Option (List (List ℕ))) (before now : ℕ) → Result NewFile Refusal → Type 0
+abbrev pub Decided : (words : List (List ℕ)) (told : Option Disk) (asked : Option (List (List ℕ))) (before now : Option ℕ) → Result NewFile Refusal → Type 0
 Decided words told asked before now decision =
-    Because (form_of words ≡ Err Usage) (λ name. InputFailed words name asked before now) (λ d. ForSome told (λ disk. Decides words disk d)) decision
+    Because (form_of words ≡ Err Usage) (λ name. InputFailed words name told asked before now) (λ d. ForSome told (λ disk. Decides words disk d)) decision
 
 -- What the files were asked for when this was decided: for what is read, each name once, and there may be no room before that.
 abbrev pub AskedFor : (words : List (List ℕ)) (was now : Option (List (List ℕ))) → Result NewFile Refusal → Type 0
@@ -145,17 +145,13 @@ abbrev pub WriteFailed : Result NewFile Refusal → (was now : Held) (put_fault 
 WriteFailed (Ok file) was now put_fault out_fault err_fault answer = FileFailed file was now put_fault answer ⊎ SayingFailed file was now out_fault answer
 WriteFailed (Err refusal) was now put_fault out_fault err_fault answer = LineFailed refusal was now err_fault answer
 
--- These came to the end of what is told: all of them, or a first part where the device failed.
-abbrev pub GainedUpTo : (fault : Type 0) (before now : Option (List ℕ)) → List ℕ → Type 0
-GainedUpTo fault before now piece = (now ≡ gained before piece) ⊎ (fault × GainedPart before now piece)
-
 -- There was no room in memory for a file or for a refusal's line, and nothing was written but the line that says so.
 pub record GaveUp (decision : Result NewFile Refusal) (was now : Held) (err_fault : Type 0) (answer : MadeWhat) : Type 0 where
   pub ended : answer ≡ made.NoMemory
   pub refused : IsErr decision
   pub disk : now.disk ≡ was.disk
   pub out : now.out ≡ was.out
-  pub err : GainedUpTo err_fault was.err now.err (line_of NoMemory)
+  pub err : Gains was.err now.err err_fault (line_of NoMemory)
 
 -- There was room, and what was decided was written, up to a fault.
 pub record Wrote (decision : Result NewFile Refusal) (was now : Held) (put_fault out_fault err_fault : Type 0) (answer : MadeWhat) : Type 0 where

@@ -2,9 +2,9 @@
 
 ghost use Rattle.std.specs.Prelude.{◌≡◌, ◌≢◌, ◌⊎◌, ℕ, ◌≤◌, List, codes, map, Option, None, Result, Ok, Err, IfOk, IfErr, OnErr, length, string_bytes};
 ghost use Rattle.std.specs.Option.{ForSome};
-ghost use Rattle.oc_base.specs.Outside.{Rose, Asks, Disk, TakeFailed};
+ghost use Rattle.oc_base.specs.Outside.{Rose, Asks, Disk, Gains, TakeFailed};
 ghost use Rattle.guest_gen.specs.Answer.{status_of, line_of};
-ghost use Rattle.guest_gen.specs.Cause.{Because, Reason, InputFailed, Decided, AskedFor, Asked, AskedBy, Formed, held, AsksOrEnds, FileWritten, FileEnds, GainedUpTo, Ends, Delivered, Settles, AsksFor, AllDone};
+ghost use Rattle.guest_gen.specs.Cause.{Because, Reason, InputFailed, Decided, AskedFor, Asked, AskedBy, Formed, held, AsksOrEnds, FileWritten, FileEnds, Ends, Delivered, Settles, AsksFor, AllDone};
 ghost use Rattle.guest_gen.specs.Decision.{text_limit, within, Assembles, Generates, said_of, Decides};
 ghost use Rattle.guest_gen.specs.Words.{form_of};
 ghost use Rattle.guest_gen.specs.declared.answer.MadeWhat.{MadeWhat};
@@ -32,11 +32,10 @@ fn fetch<F: Files>(alloc: Global, files: &mut F, name: &str) -> Result<Vec<u8>, 
     ensures bytes { IfOk result (λ bytes. ForSome (F.disk files.old) (λ disk. within name.now text_limit (disk name.now) ≡ Ok bytes.items)) }
     ensures short { IfOk result (λ bytes. length bytes.items ≤ text_limit) }
     ensures refusal { IfErr result (Reason ⊥
-        (λ given. (given ≡ name.now) × TakeFailed given (F.asked files.new) (F.take_faults files.old) (F.take_faults files.new))
+        (λ given. (given ≡ name.now) × TakeFailed given (F.disk files.old) (F.asked files.new) (F.take_faults files.old) (F.take_faults files.new))
         (λ refusal. ForSome (F.disk files.old) (λ disk. within name.now text_limit (disk name.now) ≡ Err refusal))) }
     ensures asked { Asks Refusal.NoMemory (F.asked files.old) (F.asked files.new) name.now result }
     ensures disk { F.disk files.new ≡ F.disk files.old }
-    ensures takes { F.take_faults files.old ≤ F.take_faults files.new }
     ensures puts { F.put_faults files.new ≡ F.put_faults files.old }
 {
     match files.take(alloc, name, TEXT_LIMIT) {
@@ -108,7 +107,6 @@ fn decide<F: Files>(alloc: Global, words: &[String], files: &mut F) -> Result<Ne
     ensures formed { IfOk result (Formed (map string_bytes words.now) (F.asked files.old) (F.asked files.new)) }
     ensures asked { AskedFor (map string_bytes words.now) (F.asked files.old) (F.asked files.new) result }
     ensures disk { F.disk files.new ≡ F.disk files.old }
-    ensures takes { F.take_faults files.old ≤ F.take_faults files.new }
     ensures puts { F.put_faults files.new ≡ F.put_faults files.old }
 {
     let form = match read_words(alloc, words) {
@@ -150,7 +148,7 @@ fn write_file<F: Files, O: Sink>(file: &NewFile, files: &mut F, out: &mut O) -> 
 // Says that there is no room in memory.
 fn give_up<E: Sink>(err: &mut E) -> MadeWhat
     ensures what { result ≡ MadeWhat.NoMemory }
-    ensures line { GainedUpTo (Rose (E.faults err.old) (E.faults err.new)) (E.holds err.old) (E.holds err.new) (line_of Refusal.NoMemory) }
+    ensures line { Gains (E.holds err.old) (E.holds err.new) (Rose (E.faults err.old) (E.faults err.new)) (line_of Refusal.NoMemory) }
 {
     let _ = write_all(err, b"ocolos_asm: out of memory\n");
     MadeWhat::NoMemory
@@ -160,7 +158,7 @@ fn give_up<E: Sink>(err: &mut E) -> MadeWhat
 pub fn out_of_memory<E: Sink>(err: &mut E) -> Made
     ensures what { result.what ≡ MadeWhat.NoMemory }
     ensures status { result.status ≡ status_of MadeWhat.NoMemory }
-    ensures line { GainedUpTo (Rose (E.faults err.old) (E.faults err.new)) (E.holds err.old) (E.holds err.new) (line_of Refusal.NoMemory) }
+    ensures line { Gains (E.holds err.old) (E.holds err.new) (Rose (E.faults err.old) (E.faults err.new)) (line_of Refusal.NoMemory) }
 {
     let what = give_up(err);
     let status = status(what);
@@ -227,7 +225,7 @@ pub fn make<F: Files, O: Sink, E: Sink>(
     // Each refusal has its cause, told or not.
     ensures usage { result.what ≡ MadeWhat.Usage → form_of (map string_bytes words.now) ≡ Err Refusal.Usage }
     ensures read_fault { result.what ≡ MadeWhat.ReadFault → (name : List ℕ)
-        × InputFailed (map string_bytes words.now) name (F.asked files.new) (F.take_faults files.old) (F.take_faults files.new) }
+        × InputFailed (map string_bytes words.now) name (F.disk files.old) (F.asked files.new) (F.take_faults files.old) (F.take_faults files.new) }
     ensures line { (fault : AsmFault) → result.what ≡ MadeWhat.Asm fault → fault ≢ AsmFault.NoMemory }
     ensures write_fault { result.what ≡ MadeWhat.WriteFault → Rose (F.put_faults files.old) (F.put_faults files.new)
         ⊎ (Rose (O.faults out.old) (O.faults out.new) ⊎ Rose (E.faults err.old) (E.faults err.new)) }
@@ -251,7 +249,7 @@ pub fn make<F: Files, O: Sink, E: Sink>(
     ensures asked { AskedBy (map string_bytes words.now) (F.asked files.old) (F.asked files.new) result.what }
 
     // After want of memory the last line says so, all of it where `err` doesn't fail.
-    ensures memory { result.what ≡ MadeWhat.NoMemory → GainedUpTo (Rose (E.faults err.old) (E.faults err.new)) (E.holds err.old) (E.holds err.new)
+    ensures memory { result.what ≡ MadeWhat.NoMemory → Gains (E.holds err.old) (E.holds err.new) (Rose (E.faults err.old) (E.faults err.new))
         (codes "ocolos_asm: out of memory\n") }
 
     // Files change by `Done` and a fault of writing alone, and so does `out`, which a text never changes.
