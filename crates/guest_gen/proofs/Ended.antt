@@ -13,7 +13,7 @@ use Rattle.guest_gen.specs.declared.words.Form.TheVariants.{Assemble, Generate}
 use Rattle.guest_gen.specs.Answer.{what_of}
 use Rattle.guest_gen.specs.Decision.{Decides, read, named, read_of, names_of}
 use Rattle.guest_gen.specs.Words.{form_of}
-use Rattle.guest_gen.specs.Cause.{InputFailed, Decided, AskedFor, Asked, AskedBy, Held, AllWritten, WriteFailed, Ends, Settles, AsksFor, AllDone}
+use Rattle.guest_gen.specs.Cause.{Decided, AskedFor, Asked, AskedBy, Held, AllWritten, WriteFailed, Ends, Settles, AsksFor, AllDone}
 use Rattle.guest_gen.proofs.Decided.{decides-usage, decides-missing, gained-none}
 
 -- All was written, or a device failed.
@@ -40,34 +40,37 @@ three d was now pf of ef what (inr wrote) = inr (both_of d was now pf of ef what
 asks : (words : List (List ℕ)) (disk : Disk) (d : Result NewFile Refusal) → Decides words disk d → AsksFor words disk (what_of d)
 asks words disk d decides = record { decision = d; decided = decides; answered = refl }
 
-decided_settles : (words : List (List ℕ)) (told : Option Disk) (asked : Option (List (List ℕ))) (before now : Option ℕ) (disk : Disk) (d : Result NewFile Refusal) → told ≡ Some disk → Decided words told asked before now d → Settles (AsksFor words disk) (what_of d)
+-- a text that couldn't be read is missing, unless the files failed
+missing : (words : List (List ℕ)) (told : Option Disk) (disk : Disk) (i o : List ℕ) → told ≡ Some disk → form_of words ≡ Ok (Assemble i o) → LacksFile told i → Decides words disk (Err (ReadFault i))
+missing words told disk i o tells form lacks = decides-missing words disk i o form (subst (λ t. LacksFile t i) tells lacks)
+
+read_settles : (words : List (List ℕ)) (told : Option Disk) (before now : Option ℕ) (disk : Disk) (i o : List ℕ) → told ≡ Some disk → form_of words ≡ Ok (Assemble i o) → Misses told i before now → Settles (Rose before now) (AsksFor words disk) made.ReadFault
+read_settles words told before now disk i o tells form (inl rose) = inr rose
+read_settles words told before now disk i o tells form (inr misses) = inl (asks words disk (Err (ReadFault i)) (missing words told disk i o tells form misses.1))
+
+read_whole : (words : List (List ℕ)) (told : Option Disk) (before now : Option ℕ) (disk : Disk) (i o : List ℕ) → told ≡ Some disk → form_of words ≡ Ok (Assemble i o) → Misses told i before now → (Rose before now → ⊥) → Decides words disk (Err (ReadFault i))
+read_whole words told before now disk i o tells form (inl rose) quiet = absurd (quiet rose)
+read_whole words told before now disk i o tells form (inr misses) quiet = missing words told disk i o tells form misses.1
+
+decided_settles : (words : List (List ℕ)) (told : Option Disk) (asked : Option (List (List ℕ))) (before now : Option ℕ) (disk : Disk) (d : Result NewFile Refusal) → told ≡ Some disk → Decided words told asked before now d → Settles (Rose before now) (AsksFor words disk) (what_of d)
 decided_settles words told asked before now disk (Ok file) tells why = asks words disk (Ok file) (why disk tells)
 decided_settles words told asked before now disk (Err Usage) tells why = asks words disk (Err Usage) (decides-usage words disk Usage why)
-decided_settles words told asked before now disk (Err (ReadFault name)) tells why = tt
+decided_settles words told asked before now disk (Err (ReadFault name)) tells why = read_settles words told before now disk name why.output tells why.first why.failed.why
 decided_settles words told asked before now disk (Err NoMemory) tells why = tt
 decided_settles words told asked before now disk (Err (TooLong name)) tells why = asks words disk (Err (TooLong name)) (why disk tells)
 decided_settles words told asked before now disk (Err (Fault line kind)) tells why = asks words disk (Err (Fault line kind)) (why disk tells)
 
 -- so is the answer, but for a fault and for want of memory
-pub answer_settles : (words : List (List ℕ)) (told : Option Disk) (asked : Option (List (List ℕ))) (before now : Option ℕ) (disk : Disk) (d : Result NewFile Refusal) (was now' : Held) (pf of ef : Type 0) (what : MadeWhat) → told ≡ Some disk → Decided words told asked before now d → Three d was now' pf of ef what → Settles (AsksFor words disk) what
-answer_settles words told asked before now disk d was now' pf of ef what tells why (inl full) = subst (Settles (AsksFor words disk)) (sym full) tt
-answer_settles words told asked before now disk d was now' pf of ef what tells why (inr (inl all)) = subst (Settles (AsksFor words disk)) (sym all.0) (decided_settles words told asked before now disk d tells why)
-answer_settles words told asked before now disk d was now' pf of ef what tells why (inr (inr failed)) = subst (Settles (AsksFor words disk)) (sym failed.0) tt
-
--- with no fault the text that couldn't be read is missing
-missing_in : (words : List (List ℕ)) (told : Option Disk) (before now : Option ℕ) (disk : Disk) (i o : List ℕ) → told ≡ Some disk → form_of words ≡ Ok (Assemble i o) → Misses told i before now → (Rose before now → ⊥) → Decides words disk (Err (ReadFault i))
-missing_in words told before now disk i o tells form (inl rose) quiet = absurd (quiet rose)
-missing_in words told before now disk i o tells form (inr misses) quiet =
-    decides-missing words disk i o form (subst (λ t. LacksFile t i) tells misses.1)
-
-missing : (words : List (List ℕ)) (told : Option Disk) (asked : Option (List (List ℕ))) (before now : Option ℕ) (disk : Disk) (name : List ℕ) → told ≡ Some disk → InputFailed words name told asked before now → (Rose before now → ⊥) → Decides words disk (Err (ReadFault name))
-missing words told asked before now disk name tells why quiet = missing_in words told before now disk name why.output tells why.first why.failed.why quiet
+pub answer_settles : (words : List (List ℕ)) (told : Option Disk) (asked : Option (List (List ℕ))) (before now : Option ℕ) (disk : Disk) (d : Result NewFile Refusal) (was now' : Held) (pf of ef : Type 0) (what : MadeWhat) → told ≡ Some disk → Decided words told asked before now d → Three d was now' pf of ef what → Settles (Rose before now) (AsksFor words disk) what
+answer_settles words told asked before now disk d was now' pf of ef what tells why (inl full) = subst (Settles (Rose before now) (AsksFor words disk)) (sym full) tt
+answer_settles words told asked before now disk d was now' pf of ef what tells why (inr (inl all)) = subst (Settles (Rose before now) (AsksFor words disk)) (sym all.0) (decided_settles words told asked before now disk d tells why)
+answer_settles words told asked before now disk d was now' pf of ef what tells why (inr (inr failed)) = subst (Settles (Rose before now) (AsksFor words disk)) (sym failed.0) tt
 
 -- with no fault and with memory a decision is what is asked for
 decided_whole : (words : List (List ℕ)) (told : Option Disk) (asked : Option (List (List ℕ))) (before now : Option ℕ) (disk : Disk) (d : Result NewFile Refusal) → told ≡ Some disk → Decided words told asked before now d → (Rose before now → ⊥) → what_of d ≢ made.NoMemory → Decides words disk d
 decided_whole words told asked before now disk (Ok file) tells why quiet memory = why disk tells
 decided_whole words told asked before now disk (Err Usage) tells why quiet memory = decides-usage words disk Usage why
-decided_whole words told asked before now disk (Err (ReadFault name)) tells why quiet memory = missing words told asked before now disk name tells why quiet
+decided_whole words told asked before now disk (Err (ReadFault name)) tells why quiet memory = read_whole words told before now disk name why.output tells why.first why.failed.why quiet
 decided_whole words told asked before now disk (Err NoMemory) tells why quiet memory = absurd (memory refl)
 decided_whole words told asked before now disk (Err (TooLong name)) tells why quiet memory = why disk tells
 decided_whole words told asked before now disk (Err (Fault line kind)) tells why quiet memory = why disk tells

@@ -170,11 +170,11 @@ pub record Delivered (reason : Result NewFile Refusal → Type 0) (asked : Resul
   pub ends : Ends decision was now put_fault out_fault err_fault answer
 
 -- The answer is one that is asked for, but for a fault of a device and for want of memory.
-abbrev pub Settles : (asked : MadeWhat → Type 0) → MadeWhat → Type 0
-Settles asked made.ReadFault = Unit {0}
-Settles asked made.WriteFault = Unit {0}
-Settles asked made.NoMemory = Unit {0}
-Settles asked answer = asked answer
+abbrev pub Settles : (take_fault : Type 0) (asked : MadeWhat → Type 0) → MadeWhat → Type 0
+Settles take_fault asked made.ReadFault = asked made.ReadFault ⊎ take_fault
+Settles take_fault asked made.WriteFault = Unit {0}
+Settles take_fault asked made.NoMemory = Unit {0}
+Settles take_fault asked answer = asked answer
 
 -- An answer that the words and the files ask for.
 pub record AsksFor (words : List (List ℕ)) (disk : Disk) (answer : MadeWhat) : Type 0 where

@@ -216,7 +216,7 @@ pub fn make<F: Files, O: Sink, E: Sink>(
         × FileWritten file (held (F.disk files.old) (O.holds out.old) (E.holds err.old)) (held (F.disk files.new) (O.holds out.new) (E.holds err.new)) result.what) }
 
     // The answer is the one that the words and the files ask for, but for a fault of a device and for want of memory.
-    ensures answer { ForSome (F.disk files.old) (λ disk. Settles (AsksFor (map string_bytes words.now) disk) result.what) }
+    ensures answer { ForSome (F.disk files.old) (λ disk. Settles (Rose (F.take_faults files.old) (F.take_faults files.new)) (AsksFor (map string_bytes words.now) disk) result.what) }
 
     // They ask for one thing.
     ensures one { (disk : Disk) (d e : Result NewFile Refusal) → Decides (map string_bytes words.now) disk d
