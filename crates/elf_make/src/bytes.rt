@@ -8,7 +8,7 @@ use crate::rows::Place;
 use oc_base::fault::NoMemory;
 
 #[tactic(auto, unfolding(crate::specs::Bytes::number))]
-pub fn push_u16(out: &mut Vec<u8>, n: u16) -> Result<(), NoMemory>
+pub(crate) fn push_u16(out: &mut Vec<u8>, n: u16) -> Result<(), NoMemory>
     ensures { OnOk result (out.new.items ≡ out.old.items ++ number 2 n) }
 {
     out.extend_from_slice(&n.to_le_bytes())?;
@@ -16,7 +16,7 @@ pub fn push_u16(out: &mut Vec<u8>, n: u16) -> Result<(), NoMemory>
 }
 
 #[tactic(auto, unfolding(crate::specs::Bytes::number))]
-pub fn push_u32(out: &mut Vec<u8>, n: u32) -> Result<(), NoMemory>
+pub(crate) fn push_u32(out: &mut Vec<u8>, n: u32) -> Result<(), NoMemory>
     ensures { OnOk result (out.new.items ≡ out.old.items ++ number 4 n) }
 {
     out.extend_from_slice(&n.to_le_bytes())?;
@@ -24,7 +24,7 @@ pub fn push_u32(out: &mut Vec<u8>, n: u32) -> Result<(), NoMemory>
 }
 
 #[tactic(auto, unfolding(crate::specs::Bytes::number))]
-pub fn push_u64(out: &mut Vec<u8>, n: u64) -> Result<(), NoMemory>
+pub(crate) fn push_u64(out: &mut Vec<u8>, n: u64) -> Result<(), NoMemory>
     ensures { OnOk result (out.new.items ≡ out.old.items ++ number 8 n) }
 {
     out.extend_from_slice(&n.to_le_bytes())?;
@@ -32,7 +32,7 @@ pub fn push_u64(out: &mut Vec<u8>, n: u64) -> Result<(), NoMemory>
 }
 
 #[tactic(auto, unfolding(crate::specs::Bytes::number))]
-pub fn push_u8(out: &mut Vec<u8>, n: u8) -> Result<(), NoMemory>
+pub(crate) fn push_u8(out: &mut Vec<u8>, n: u8) -> Result<(), NoMemory>
     ensures { OnOk result (out.new.items ≡ out.old.items ++ number 1 n) }
 {
     out.push(n)?;
@@ -40,7 +40,7 @@ pub fn push_u8(out: &mut Vec<u8>, n: u8) -> Result<(), NoMemory>
 }
 
 /// Adds zeros up to a place, unless the file reaches it.
-pub fn fill(file: &mut Vec<u8>, at: usize) -> Result<(), NoMemory>
+pub(crate) fn fill(file: &mut Vec<u8>, at: usize) -> Result<(), NoMemory>
     ensures { OnOk result (file.new.items ≡ file.old.items ++ replicate (at - length file.old.items) 0) }
 {
     let count = at.saturating_sub(file.len());
@@ -51,7 +51,7 @@ pub fn fill(file: &mut Vec<u8>, at: usize) -> Result<(), NoMemory>
 }
 
 /// Adds a part at its place.
-pub fn place(file: &mut Vec<u8>, at: usize, part: &[u8]) -> Result<(), NoMemory>
+pub(crate) fn place(file: &mut Vec<u8>, at: usize, part: &[u8]) -> Result<(), NoMemory>
     requires { length file.old.items ≤ at }
     ensures part { OnOk result (file.new.items ≡ placed file.old.items at part.now) }
     ensures len { OnOk result (length file.new.items ≡ at + length part.now) }
@@ -62,7 +62,7 @@ pub fn place(file: &mut Vec<u8>, at: usize, part: &[u8]) -> Result<(), NoMemory>
 }
 
 /// Adds a part at the next multiple of 8, and answers its place.
-pub fn place_next(file: &mut Vec<u8>, part: &[u8]) -> Result<Place, NoMemory>
+pub(crate) fn place_next(file: &mut Vec<u8>, part: &[u8]) -> Result<Place, NoMemory>
     ensures at { IfOk result (λ place. place.offset ≡ round_up 8 (length file.old.items)) }
     ensures size { IfOk result (λ place. place.size ≡ length part.now) }
     ensures part { OnOk result (file.new.items ≡ placed file.old.items (round_up 8 (length file.old.items)) part.now) }

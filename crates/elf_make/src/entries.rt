@@ -9,7 +9,7 @@ use elf_read::tables::{ProgramHeader, SymbolEntry};
 use oc_base::fault::NoMemory;
 use rv_asm::symbol::Fixup;
 
-pub fn push_program_header(out: &mut Vec<u8>, h: &ProgramHeader) -> Result<(), NoMemory>
+pub(crate) fn push_program_header(out: &mut Vec<u8>, h: &ProgramHeader) -> Result<(), NoMemory>
     ensures { OnOk result (out.new.items ≡ out.old.items ++ program_header h.now) }
 {
     push_u32(out, h.kind)?;
@@ -24,7 +24,7 @@ pub fn push_program_header(out: &mut Vec<u8>, h: &ProgramHeader) -> Result<(), N
 }
 
 #[tactic(auto, unfolding(crate::specs::Rows::relocation))]
-pub fn push_relocation(out: &mut Vec<u8>, f: &Fixup) -> Result<(), NoMemory>
+pub(crate) fn push_relocation(out: &mut Vec<u8>, f: &Fixup) -> Result<(), NoMemory>
     requires { f.now.func < 2 ^ 31 }
     ensures { OnOk result (out.new.items ≡ out.old.items ++ relocation f.now) }
 {
@@ -43,7 +43,7 @@ fn push_identification(out: &mut Vec<u8>) -> Result<(), NoMemory>
 }
 
 /// Adds the file's header.
-pub fn push_file_header(out: &mut Vec<u8>, h: &FileHeader) -> Result<(), NoMemory>
+pub(crate) fn push_file_header(out: &mut Vec<u8>, h: &FileHeader) -> Result<(), NoMemory>
     requires { 0 < h.now.section_header_count }
     ensures { OnOk result (out.new.items ≡ out.old.items ++ file_header h.now) }
 {
@@ -64,7 +64,7 @@ pub fn push_file_header(out: &mut Vec<u8>, h: &FileHeader) -> Result<(), NoMemor
     Ok(())
 }
 
-pub fn push_section_header(out: &mut Vec<u8>, s: &SectionRow) -> Result<(), NoMemory>
+pub(crate) fn push_section_header(out: &mut Vec<u8>, s: &SectionRow) -> Result<(), NoMemory>
     ensures { OnOk result (out.new.items ≡ out.old.items ++ section_header s.now) }
 {
     push_u32(out, s.name)?;
@@ -80,7 +80,7 @@ pub fn push_section_header(out: &mut Vec<u8>, s: &SectionRow) -> Result<(), NoMe
     Ok(())
 }
 
-pub fn push_symbol(out: &mut Vec<u8>, e: &SymbolEntry) -> Result<(), NoMemory>
+pub(crate) fn push_symbol(out: &mut Vec<u8>, e: &SymbolEntry) -> Result<(), NoMemory>
     ensures { OnOk result (out.new.items ≡ out.old.items ++ symbol_entry e.now) }
 {
     push_u32(out, e.name)?;

@@ -16,7 +16,7 @@ use oc_base::fault::NoMemory;
 use rv_asm::symbol::{Fixup, Named};
 
 #[tactic(auto, using(crate::proofs::OneMore::flat_more))]
-pub fn push_text(out: &mut Vec<u8>, words: &[u32]) -> Result<(), NoMemory>
+pub(crate) fn push_text(out: &mut Vec<u8>, words: &[u32]) -> Result<(), NoMemory>
     ensures { OnOk result (out.new.items ≡ out.old.items ++ flat_map (number 4) words.now) }
 {
     for w in words {
@@ -26,7 +26,7 @@ pub fn push_text(out: &mut Vec<u8>, words: &[u32]) -> Result<(), NoMemory>
 }
 
 #[tactic(auto, using(crate::proofs::OneMore::flat_more))]
-pub fn push_program_headers(out: &mut Vec<u8>, headers: &[ProgramHeader]) -> Result<(), NoMemory>
+pub(crate) fn push_program_headers(out: &mut Vec<u8>, headers: &[ProgramHeader]) -> Result<(), NoMemory>
     ensures { OnOk result (out.new.items ≡ out.old.items ++ flat_map program_header headers.now) }
 {
     for h in headers {
@@ -36,7 +36,7 @@ pub fn push_program_headers(out: &mut Vec<u8>, headers: &[ProgramHeader]) -> Res
 }
 
 #[tactic(auto, using(crate::proofs::OneMore::flat_more))]
-pub fn push_section_headers(out: &mut Vec<u8>, rows: &[SectionRow]) -> Result<(), NoMemory>
+pub(crate) fn push_section_headers(out: &mut Vec<u8>, rows: &[SectionRow]) -> Result<(), NoMemory>
     ensures { OnOk result (out.new.items ≡ out.old.items ++ flat_map section_header rows.now) }
 {
     for s in rows {
@@ -47,7 +47,7 @@ pub fn push_section_headers(out: &mut Vec<u8>, rows: &[SectionRow]) -> Result<()
 
 /// Adds the names of functions or objects to a table of strings.
 #[tactic(auto, using(crate::proofs::OneMore::names_more))]
-pub fn push_names(out: &mut Vec<u8>, items: &[Named]) -> Result<(), NoMemory>
+pub(crate) fn push_names(out: &mut Vec<u8>, items: &[Named]) -> Result<(), NoMemory>
     ensures { OnOk result (out.new.items ≡ out.old.items ++ flat_map ended (map name_of items.now)) }
 {
     for n in items {
@@ -66,7 +66,7 @@ fn is_of(f: Fixup, slots: bool) -> bool
 
 /// Adds the relocations of text, or those of slots.
 #[tactic(auto, using(finite::proofs::Filtered::flat_map_filter_more))]
-pub fn push_relocations(out: &mut Vec<u8>, fixups: &[Fixup], slots: bool) -> Result<(), NoMemory>
+pub(crate) fn push_relocations(out: &mut Vec<u8>, fixups: &[Fixup], slots: bool) -> Result<(), NoMemory>
     requires { All (λ f. f.func < 2 ^ 31) fixups.now }
     ensures bytes { OnOk result (out.new.items ≡ out.old.items ++ flat_map relocation (filter (is_of slots) fixups.now)) }
     ensures range { OnOk result (All IsFixupInRange fixups.now) }
@@ -82,7 +82,7 @@ pub fn push_relocations(out: &mut Vec<u8>, fixups: &[Fixup], slots: bool) -> Res
 /// Adds the symbols of functions or objects, whose names stand one after another from a place of the
 /// strings on, and answers where the next name stands.
 #[tactic(auto, using(crate::proofs::OneMore::symbols_more, crate::proofs::OneMore::size_more))]
-pub fn push_symbols(
+pub(crate) fn push_symbols(
     out: &mut Vec<u8>,
     items: &[Named],
     info: u8,

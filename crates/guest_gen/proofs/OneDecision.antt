@@ -9,10 +9,9 @@ use Rattle.guest_gen.specs.declared.decision.Refusal.{Refusal}
 use Rattle.guest_gen.specs.declared.decision.Refusal.TheVariants.{Fault}
 use Rattle.guest_gen.specs.declared.words.Form.{Form}
 use Rattle.guest_gen.specs.declared.words.Form.TheVariants.{Assemble, Generate}
-use Rattle.guest_gen.specs.declared.TheConstants.{TEXT_LIMIT}
 use Rattle.guest_gen.specs.Generated.{text, IsGenerated}
 use Rattle.guest_gen.specs.Words.{form_of}
-use Rattle.guest_gen.specs.Decision.{within, IsFileOf, IsGuestFile, Assembles, Generates, DecidesRead, DecidesIn, Decides}
+use Rattle.guest_gen.specs.Decision.{text_limit, within, IsFileOf, IsGuestFile, Assembles, Generates, DecidesRead, DecidesIn, Decides}
 
 one_guest : (n : ℕ) (p q : Program) → IsGenerated n p → IsGenerated n q → p ≡ q
 one_guest n p q a b =
@@ -54,7 +53,7 @@ from_read (Ok text) name d e a b = one_assembled text name d e a b
 from_read (Err r) name d e a b = a ∙ sym b
 
 from_form : (disk : Disk) (f : Result Form Refusal) (d e : Result NewFile Refusal) → DecidesIn disk f d → DecidesIn disk f e → d ≡ e
-from_form disk (Ok (Assemble i o)) d e a b = from_read (within i TEXT_LIMIT (disk i)) o d e a b
+from_form disk (Ok (Assemble i o)) d e a b = from_read (within i text_limit (disk i)) o d e a b
 from_form disk (Ok (Generate n o)) d e a b = one_generated n o d e a b
 from_form disk (Err r) d e a b = a ∙ sym b
 

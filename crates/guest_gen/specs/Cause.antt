@@ -1,7 +1,7 @@
 -- Why a call ended as it did, and what it has written by then.
-use Rattle.std.specs.Prelude.{◌≡◌, ◌≢◌, ◌⊎◌, ℕ, List, Option, Some, None, Result, Ok, Err}
+use Rattle.std.specs.Prelude.{◌≡◌, ◌≢◌, ◌⊎◌, ℕ, List, [], ◌∷◌, Option, Some, None, Result, Ok, Err, IsErr}
 use Rattle.std.specs.Option.{ForSome}
-use Rattle.oc_base.specs.Outside.{Disk, gained, GainedPart, HasNow, SameElsewhere, TakeFailed}
+use Rattle.oc_base.specs.Outside.{Disk, gained, GainedPart, Gains, HasNow, SameElsewhere, TakeFailed}
 use Rattle.guest_gen.specs.declared.answer.MadeWhat.{MadeWhat}
 use Rattle.guest_gen.specs.declared.answer.MadeWhat.TheVariants as made
 use Rattle.guest_gen.specs.declared.decision.NewFile.{NewFile}
@@ -11,7 +11,7 @@ use Rattle.guest_gen.specs.declared.words.Form.{Form}
 use Rattle.guest_gen.specs.declared.words.Form.TheVariants.{Assemble, Generate}
 use Rattle.guest_gen.specs.Answer.{what_of, line_of}
 use Rattle.guest_gen.specs.Words.{form_of, inputs_of, output_of}
-use Rattle.guest_gen.specs.Decision.{Decides}
+use Rattle.guest_gen.specs.Decision.{Decides, read_of, names_of}
 
 -- The reason of a refusal: the words (usage), the files that failed at this name (fault), or that the words and the files ask
 -- for this very refusal (is). Want of memory needs none.
@@ -26,16 +26,37 @@ abbrev pub Because : (usage : Type 0) (fault : List ℕ → Type 0) (is : Result
 Because usage fault is (Ok file) = is (Ok file)
 Because usage fault is (Err refusal) = Reason usage fault (λ r. is (Err r)) refusal
 
--- The text could not be read: its name is the first of two words, and the last that the files were asked for.
-pub record InputFailed (words : List (List ℕ)) (name : List ℕ) (asked : Option (List (List ℕ))) (before now : ℕ) : Type 0 where
+-- The text could not be read, or there is none: its name is the first of two words, and the last that the files were asked for.
+pub record InputFailed (words : List (List ℕ)) (name : List ℕ) (told : Option Disk) (asked : Option (List (List ℕ))) (before now : Option ℕ) : Type 0 where
   pub output : List ℕ
   pub first : form_of words ≡ Ok (Assemble name output)
-  pub failed : TakeFailed name asked before now
+  pub failed : TakeFailed name told asked before now
 
 -- This was decided: from the words, what the files tell, the names that they were asked for, and their count of faults before and now.
-abbrev pub Decided : (words : List (List ℕ)) (told : Option Disk) (asked : Option (List (List ℕ))) (before now : ℕ) → Result NewFile Refusal → Type 0
+abbrev pub Decided : (words : List (List ℕ)) (told : Option Disk) (asked : Option (List (List ℕ))) (before now : Option ℕ) → Result NewFile Refusal → Type 0
 Decided words told asked before now decision =
-    Because (form_of words ≡ Err Usage) (λ name. InputFailed words name asked before now) (λ d. ForSome told (λ disk. Decides words disk d)) decision
+    Because (form_of words ≡ Err Usage) (λ name. InputFailed words name told asked before now) (λ d. ForSome told (λ disk. Decides words disk d)) decision
+
+-- What the files were asked for when this was decided: for what is read, each name once, and there may be no room before that.
+abbrev pub AskedFor : (words : List (List ℕ)) (was now : Option (List (List ℕ))) → Result NewFile Refusal → Type 0
+AskedFor words was now (Err NoMemory) = GainedPart was now (read_of words)
+AskedFor words was now decision = now ≡ gained was (read_of words)
+
+-- And when it was answered: where a file was decided, for the file too, unless writing it failed before.
+abbrev pub Asked : (words : List (List ℕ)) (was now : Option (List (List ℕ))) → Result NewFile Refusal → MadeWhat → Type 0
+Asked words was now (Ok file) answer = (now ≡ gained was (names_of words)) ⊎ ((answer ≡ made.WriteFault) × AskedFor words was now (Ok file))
+Asked words was now (Err refusal) answer = AskedFor words was now (Err refusal)
+
+-- The same by the answer: nothing where the words have no form, the text's name alone where the text was read and refused, and
+-- that name, if there is one, and the file's where the file was written.
+abbrev pub AskedBy : (words : List (List ℕ)) (was now : Option (List (List ℕ))) → MadeWhat → Type 0
+AskedBy words was now made.Usage = now ≡ was
+AskedBy words was now made.ReadFault = now ≡ gained was (read_of words)
+AskedBy words was now made.TooLong = now ≡ gained was (read_of words)
+AskedBy words was now (made.Asm fault) = now ≡ gained was (read_of words)
+AskedBy words was now made.Done = now ≡ gained was (names_of words)
+AskedBy words was now made.WriteFault = GainedPart was now (names_of words)
+AskedBy words was now made.NoMemory = GainedPart was now (read_of words)
 
 -- nothing is said of a text's program
 abbrev pub IsQuiet : Form → NewFile → Type 0
@@ -63,6 +84,10 @@ held disk out err = record { disk = disk; out = out; err = err }
 abbrev pub told : Option (List ℕ) → Option (List ℕ) → Option (List ℕ)
 told out None = out
 told out (Some line) = gained out line
+
+-- The files were asked for a file's name, unless writing it failed before.
+abbrev pub AsksOrEnds : (name : List ℕ) (was now : Option (List (List ℕ))) (answer : MadeWhat) → Type 0
+AsksOrEnds name was now answer = (now ≡ gained was (name ∷ [])) ⊎ ((answer ≡ made.WriteFault) × (now ≡ was))
 
 -- The file was written, and then its line.
 pub record FileWritten (file : NewFile) (was now : Held) (answer : MadeWhat) : Type 0 where
@@ -120,12 +145,13 @@ abbrev pub WriteFailed : Result NewFile Refusal → (was now : Held) (put_fault 
 WriteFailed (Ok file) was now put_fault out_fault err_fault answer = FileFailed file was now put_fault answer ⊎ SayingFailed file was now out_fault answer
 WriteFailed (Err refusal) was now put_fault out_fault err_fault answer = LineFailed refusal was now err_fault answer
 
--- There was no room in memory, and nothing was written but a first part of the line that says so.
-pub record GaveUp (was now : Held) (answer : MadeWhat) : Type 0 where
+-- There was no room in memory for a file or for a refusal's line, and nothing was written but the line that says so.
+pub record GaveUp (decision : Result NewFile Refusal) (was now : Held) (err_fault : Type 0) (answer : MadeWhat) : Type 0 where
   pub ended : answer ≡ made.NoMemory
+  pub refused : IsErr decision
   pub disk : now.disk ≡ was.disk
   pub out : now.out ≡ was.out
-  pub err : GainedPart was.err now.err (line_of NoMemory)
+  pub err : Gains was.err now.err err_fault (line_of NoMemory)
 
 -- There was room, and what was decided was written, up to a fault.
 pub record Wrote (decision : Result NewFile Refusal) (was now : Held) (put_fault out_fault err_fault : Type 0) (answer : MadeWhat) : Type 0 where
@@ -134,20 +160,21 @@ pub record Wrote (decision : Result NewFile Refusal) (was now : Held) (put_fault
 
 -- What became of a decision.
 abbrev pub Ends : Result NewFile Refusal → (was now : Held) (put_fault out_fault err_fault : Type 0) → MadeWhat → Type 0
-Ends decision was now put_fault out_fault err_fault answer = GaveUp was now answer ⊎ Wrote decision was now put_fault out_fault err_fault answer
+Ends decision was now put_fault out_fault err_fault answer = GaveUp decision was now err_fault answer ⊎ Wrote decision was now put_fault out_fault err_fault answer
 
--- Something was decided for this reason, and ended so.
-pub record Delivered (reason : Result NewFile Refusal → Type 0) (was now : Held) (put_fault out_fault err_fault : Type 0) (answer : MadeWhat) : Type 0 where
+-- Something was decided for this reason, the files were asked for this, and it ended so.
+pub record Delivered (reason : Result NewFile Refusal → Type 0) (asked : Result NewFile Refusal → MadeWhat → Type 0) (was now : Held) (put_fault out_fault err_fault : Type 0) (answer : MadeWhat) : Type 0 where
   pub decision : Result NewFile Refusal
   pub because : reason decision
+  pub names : asked decision answer
   pub ends : Ends decision was now put_fault out_fault err_fault answer
 
 -- The answer is one that is asked for, but for a fault of a device and for want of memory.
-abbrev pub Settles : (asked : MadeWhat → Type 0) → MadeWhat → Type 0
-Settles asked made.ReadFault = Unit {0}
-Settles asked made.WriteFault = Unit {0}
-Settles asked made.NoMemory = Unit {0}
-Settles asked answer = asked answer
+abbrev pub Settles : (take_fault : Type 0) (asked : MadeWhat → Type 0) → MadeWhat → Type 0
+Settles take_fault asked made.ReadFault = asked made.ReadFault ⊎ take_fault
+Settles take_fault asked made.WriteFault = Unit {0}
+Settles take_fault asked made.NoMemory = Unit {0}
+Settles take_fault asked answer = asked answer
 
 -- An answer that the words and the files ask for.
 pub record AsksFor (words : List (List ℕ)) (disk : Disk) (answer : MadeWhat) : Type 0 where

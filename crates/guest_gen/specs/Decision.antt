@@ -8,12 +8,15 @@ use Rattle.rv_asm.specs.declared.fault.AsmFault.TheVariants.{Line}
 use Rattle.rv_asm.specs.declared.program.Program.{Program}
 use Rattle.guest_gen.specs.Generated.{IsGenerated}
 use Rattle.guest_gen.specs.Words.{form_of, inputs_of, output_of}
-use Rattle.guest_gen.specs.declared.TheConstants.{TEXT_LIMIT}
 use Rattle.guest_gen.specs.declared.decision.NewFile.{NewFile}
 use Rattle.guest_gen.specs.declared.decision.Refusal.{Refusal}
 use Rattle.guest_gen.specs.declared.decision.Refusal.TheVariants.{ReadFault, TooLong, Fault}
 use Rattle.guest_gen.specs.declared.words.Form.{Form}
 use Rattle.guest_gen.specs.declared.words.Form.TheVariants.{Assemble, Generate}
+
+-- the most bytes of a text: 64 MiB
+abbrev pub text_limit : ℕ
+text_limit = 67108864
 
 -- the bytes of a file, if there is one and it isn't longer than the limit
 abbrev pub within : List ℕ → ℕ → Option (List ℕ) → Result (List ℕ) Refusal
@@ -58,7 +61,7 @@ DecidesRead (Err refusal) output d = d ≡ Err refusal
 
 -- what is asked for in this form
 abbrev pub DecidesIn : Disk → Result Form Refusal → Result NewFile Refusal → Type 0
-DecidesIn disk (Ok (Assemble input output)) d = DecidesRead (within input TEXT_LIMIT (disk input)) output d
+DecidesIn disk (Ok (Assemble input output)) d = DecidesRead (within input text_limit (disk input)) output d
 DecidesIn disk (Ok (Generate n output)) d = Generates n output d
 DecidesIn disk (Err refusal) d = d ≡ Err refusal
 
@@ -66,10 +69,19 @@ DecidesIn disk (Err refusal) d = d ≡ Err refusal
 abbrev pub Decides : List (List ℕ) → Disk → Result NewFile Refusal → Type 0
 Decides words disk d = DecidesIn disk (form_of words) d
 
--- the names that the words give, in the order in which the files are asked for them: the text is read, and the file written
+-- the names of what is read, and of what is read and written, in the order in which the files are asked for them
+abbrev pub read : Result Form Refusal → List (List ℕ)
+read (Ok form) = inputs_of form
+read (Err refusal) = []
+
 abbrev pub named : Result Form Refusal → List (List ℕ)
 named (Ok form) = inputs_of form ++ output_of form ∷ []
 named (Err refusal) = []
 
+-- the text's name, if the words ask for a text's program
+abbrev pub read_of : List (List ℕ) → List (List ℕ)
+read_of words = read (form_of words)
+
+-- the names that the words give
 abbrev pub names_of : List (List ℕ) → List (List ℕ)
 names_of words = named (form_of words)

@@ -1,11 +1,11 @@
 //! The call itself: decide from words and files, then write the file or the line that tells of a refusal.
 
-ghost use Rattle.std.specs.Prelude.{◌≡◌, ◌≢◌, ◌⊎◌, ℕ, ◌≤◌, List, [], ◌∷◌, map, Option, None, Result, Ok, Err, IfOk, IfErr, OnErr, length, string_bytes};
+ghost use Rattle.std.specs.Prelude.{◌≡◌, ◌≢◌, ◌⊎◌, ℕ, ◌≤◌, List, codes, map, Option, None, Result, Ok, Err, IfOk, IfErr, OnErr, length, string_bytes};
 ghost use Rattle.std.specs.Option.{ForSome};
-ghost use Rattle.oc_base.specs.Outside.{Rose, Asks, Disk, GainedPart, TakeFailed};
-ghost use Rattle.guest_gen.specs.Answer.{status_of};
-ghost use Rattle.guest_gen.specs.Cause.{Because, Reason, InputFailed, Decided, Formed, held, FileWritten, FileEnds, Ends, Delivered, Settles, AsksFor, AllDone};
-ghost use Rattle.guest_gen.specs.Decision.{within, Assembles, Generates, said_of, Decides, names_of};
+ghost use Rattle.oc_base.specs.Outside.{Rose, Asks, Disk, Gains, TakeFailed};
+ghost use Rattle.guest_gen.specs.Answer.{status_of, line_of};
+ghost use Rattle.guest_gen.specs.Cause.{Because, Reason, InputFailed, Decided, AskedFor, Asked, AskedBy, Formed, held, AsksOrEnds, FileWritten, FileEnds, Ends, Delivered, Settles, AsksFor, AllDone};
+ghost use Rattle.guest_gen.specs.Decision.{text_limit, within, Assembles, Generates, said_of, Decides};
 ghost use Rattle.guest_gen.specs.Words.{form_of};
 ghost use Rattle.guest_gen.specs.declared.answer.MadeWhat.{MadeWhat};
 ghost use Rattle.guest_gen.specs.declared.decision.NewFile.{NewFile};
@@ -29,14 +29,13 @@ use std::alloc::{AllocError, Global};
 
 // The whole text within its limit.
 fn fetch<F: Files>(alloc: Global, files: &mut F, name: &str) -> Result<Vec<u8>, Refusal>
-    ensures bytes { IfOk result (λ bytes. ForSome (F.disk files.old) (λ disk. within name.now TEXT_LIMIT (disk name.now) ≡ Ok bytes.items)) }
-    ensures short { IfOk result (λ bytes. length bytes.items ≤ TEXT_LIMIT) }
+    ensures bytes { IfOk result (λ bytes. ForSome (F.disk files.old) (λ disk. within name.now text_limit (disk name.now) ≡ Ok bytes.items)) }
+    ensures short { IfOk result (λ bytes. length bytes.items ≤ text_limit) }
     ensures refusal { IfErr result (Reason ⊥
-        (λ given. (given ≡ name.now) × TakeFailed given (F.asked files.new) (F.take_faults files.old) (F.take_faults files.new))
-        (λ refusal. ForSome (F.disk files.old) (λ disk. within name.now TEXT_LIMIT (disk name.now) ≡ Err refusal))) }
+        (λ given. (given ≡ name.now) × TakeFailed given (F.disk files.old) (F.asked files.new) (F.take_faults files.old) (F.take_faults files.new))
+        (λ refusal. ForSome (F.disk files.old) (λ disk. within name.now text_limit (disk name.now) ≡ Err refusal))) }
     ensures asked { Asks Refusal.NoMemory (F.asked files.old) (F.asked files.new) name.now result }
     ensures disk { F.disk files.new ≡ F.disk files.old }
-    ensures takes { F.take_faults files.old ≤ F.take_faults files.new }
     ensures puts { F.put_faults files.new ≡ F.put_faults files.old }
 {
     match files.take(alloc, name, TEXT_LIMIT) {
@@ -59,7 +58,7 @@ fn fetch<F: Files>(alloc: Global, files: &mut F, name: &str) -> Result<Vec<u8>, 
 
 // The file of the text's program.
 fn file_of(alloc: Global, text: &[u8], name: Text) -> Result<NewFile, Refusal>
-    requires { length text.now ≤ TEXT_LIMIT }
+    requires { length text.now ≤ text_limit }
     ensures { Because ⊥ (λ _. ⊥) (Assembles text.now name) result }
 {
     let program = match assemble(alloc, text) {
@@ -106,9 +105,8 @@ fn decide<F: Files>(alloc: Global, words: &[String], files: &mut F) -> Result<Ne
     ensures why { Decided (map string_bytes words.now) (F.disk files.old) (F.asked files.new)
         (F.take_faults files.old) (F.take_faults files.new) result }
     ensures formed { IfOk result (Formed (map string_bytes words.now) (F.asked files.old) (F.asked files.new)) }
-    ensures asked_part { GainedPart (F.asked files.old) (F.asked files.new) (names_of (map string_bytes words.now)) }
+    ensures asked { AskedFor (map string_bytes words.now) (F.asked files.old) (F.asked files.new) result }
     ensures disk { F.disk files.new ≡ F.disk files.old }
-    ensures takes { F.take_faults files.old ≤ F.take_faults files.new }
     ensures puts { F.put_faults files.new ≡ F.put_faults files.old }
 {
     let form = match read_words(alloc, words) {
@@ -131,7 +129,7 @@ fn decide<F: Files>(alloc: Global, words: &[String], files: &mut F) -> Result<Ne
 fn write_file<F: Files, O: Sink>(file: &NewFile, files: &mut F, out: &mut O) -> MadeWhat
     ensures ends { (err : Option (List ℕ)) → FileEnds file.now (held (F.disk files.old) (O.holds out.old) err) (held (F.disk files.new) (O.holds out.new) err)
         (Rose (F.put_faults files.old) (F.put_faults files.new)) (Rose (O.faults out.old) (O.faults out.new)) result }
-    ensures asked { GainedPart (F.asked files.old) (F.asked files.new) (file.now.name ∷ []) }
+    ensures asked { AsksOrEnds file.now.name (F.asked files.old) (F.asked files.new) result }
     ensures quiet { file.now.line ≡ None → out.new ≡ out.old }
     ensures takes { F.take_faults files.new ≡ F.take_faults files.old }
 {
@@ -147,6 +145,26 @@ fn write_file<F: Files, O: Sink>(file: &NewFile, files: &mut F, out: &mut O) -> 
     MadeWhat::Done
 }
 
+// Says that there is no room in memory.
+fn give_up<E: Sink>(err: &mut E) -> MadeWhat
+    ensures what { result ≡ MadeWhat.NoMemory }
+    ensures line { Gains (E.holds err.old) (E.holds err.new) (Rose (E.faults err.old) (E.faults err.new)) (line_of Refusal.NoMemory) }
+{
+    let _ = write_all(err, b"ocolos_asm: out of memory\n");
+    MadeWhat::NoMemory
+}
+
+/// Answers a call for whose words there is no room in memory.
+pub fn out_of_memory<E: Sink>(err: &mut E) -> Made
+    ensures what { result.what ≡ MadeWhat.NoMemory }
+    ensures status { result.status ≡ status_of MadeWhat.NoMemory }
+    ensures line { Gains (E.holds err.old) (E.holds err.new) (Rose (E.faults err.old) (E.faults err.new)) (line_of Refusal.NoMemory) }
+{
+    let what = give_up(err);
+    let status = status(what);
+    Made { status, what }
+}
+
 // Writes what was decided: the file and its line, or the line that tells of a refusal. A line is made before it is written.
 fn deliver<F: Files, O: Sink, E: Sink>(
     alloc: Global,
@@ -157,7 +175,7 @@ fn deliver<F: Files, O: Sink, E: Sink>(
 ) -> MadeWhat
     ensures ends { Ends decision (held (F.disk files.old) (O.holds out.old) (E.holds err.old)) (held (F.disk files.new) (O.holds out.new) (E.holds err.new))
         (Rose (F.put_faults files.old) (F.put_faults files.new)) (Rose (O.faults out.old) (O.faults out.new)) (Rose (E.faults err.old) (E.faults err.new)) result }
-    ensures asked { IfOk decision (λ file. GainedPart (F.asked files.old) (F.asked files.new) (file.name ∷ [])) }
+    ensures asked { IfOk decision (λ file. AsksOrEnds file.name (F.asked files.old) (F.asked files.new) result) }
     ensures kept { OnErr decision (files.new ≡ files.old) }
     ensures quiet { IfOk decision (λ file. file.line ≡ None → out.new ≡ out.old) }
     ensures silent { OnErr decision (out.new ≡ out.old) }
@@ -168,8 +186,7 @@ fn deliver<F: Files, O: Sink, E: Sink>(
         Err(refusal) => refusal,
     };
     let Ok(line) = refusal.line(alloc) else {
-        let _ = write_all(err, b"ocolos_asm: out of memory\n");
-        return MadeWhat::NoMemory;
+        return give_up(err);
     };
     let Ok(()) = write_all(err, line.as_slice()) else {
         return MadeWhat::WriteFault;
@@ -199,7 +216,7 @@ pub fn make<F: Files, O: Sink, E: Sink>(
         × FileWritten file (held (F.disk files.old) (O.holds out.old) (E.holds err.old)) (held (F.disk files.new) (O.holds out.new) (E.holds err.new)) result.what) }
 
     // The answer is the one that the words and the files ask for, but for a fault of a device and for want of memory.
-    ensures answer { ForSome (F.disk files.old) (λ disk. Settles (AsksFor (map string_bytes words.now) disk) result.what) }
+    ensures answer { ForSome (F.disk files.old) (λ disk. Settles (Rose (F.take_faults files.old) (F.take_faults files.new)) (AsksFor (map string_bytes words.now) disk) result.what) }
 
     // They ask for one thing.
     ensures one { (disk : Disk) (d e : Result NewFile Refusal) → Decides (map string_bytes words.now) disk d
@@ -208,13 +225,14 @@ pub fn make<F: Files, O: Sink, E: Sink>(
     // Each refusal has its cause, told or not.
     ensures usage { result.what ≡ MadeWhat.Usage → form_of (map string_bytes words.now) ≡ Err Refusal.Usage }
     ensures read_fault { result.what ≡ MadeWhat.ReadFault → (name : List ℕ)
-        × InputFailed (map string_bytes words.now) name (F.asked files.new) (F.take_faults files.old) (F.take_faults files.new) }
+        × InputFailed (map string_bytes words.now) name (F.disk files.old) (F.asked files.new) (F.take_faults files.old) (F.take_faults files.new) }
     ensures line { (fault : AsmFault) → result.what ≡ MadeWhat.Asm fault → fault ≢ AsmFault.NoMemory }
     ensures write_fault { result.what ≡ MadeWhat.WriteFault → Rose (F.put_faults files.old) (F.put_faults files.new)
         ⊎ (Rose (O.faults out.old) (O.faults out.new) ⊎ Rose (E.faults err.old) (E.faults err.new)) }
 
-    // What was decided, for its reason, is written, up to a fault.
+    // What was decided, for its reason, is written, up to a fault; the files were asked for no more than that wants.
     ensures bytes { Delivered (Decided (map string_bytes words.now) (F.disk files.old) (F.asked files.new) (F.take_faults files.old) (F.take_faults files.new))
+        (Asked (map string_bytes words.now) (F.asked files.old) (F.asked files.new))
         (held (F.disk files.old) (O.holds out.old) (E.holds err.old)) (held (F.disk files.new) (O.holds out.new) (E.holds err.new))
         (Rose (F.put_faults files.old) (F.put_faults files.new)) (Rose (O.faults out.old) (O.faults out.new)) (Rose (E.faults err.old) (E.faults err.new)) result.what }
 
@@ -225,9 +243,16 @@ pub fn make<F: Files, O: Sink, E: Sink>(
         → AllDone (map string_bytes words.now) disk
         (held (F.disk files.old) (O.holds out.old) (E.holds err.old)) (held (F.disk files.new) (O.holds out.new) (E.holds err.new)) result.what) }
 
-    // The files are asked for the words' names alone, each once and in their order. They change by `Done` and a fault of writing
-    // alone, and so does `out`, which a text never changes.
-    ensures asked { GainedPart (F.asked files.old) (F.asked files.new) (names_of (map string_bytes words.now)) }
+    // Each answer ends the call at its place: the files are asked for the words' names alone, each once and in their order, for
+    // none after `Usage`, and for the text's alone after a refusal of the text.
+    ensures usage_asked { result.what ≡ MadeWhat.Usage → F.asked files.new ≡ F.asked files.old }
+    ensures asked { AskedBy (map string_bytes words.now) (F.asked files.old) (F.asked files.new) result.what }
+
+    // After want of memory the last line says so, all of it where `err` doesn't fail.
+    ensures memory { result.what ≡ MadeWhat.NoMemory → Gains (E.holds err.old) (E.holds err.new) (Rose (E.faults err.old) (E.faults err.new))
+        (codes "ocolos_asm: out of memory\n") }
+
+    // Files change by `Done` and a fault of writing alone, and so does `out`, which a text never changes.
     ensures disk { result.what ≢ MadeWhat.Done → result.what ≢ MadeWhat.WriteFault → F.disk files.new ≡ F.disk files.old }
     ensures quiet { result.what ≢ MadeWhat.Done → result.what ≢ MadeWhat.WriteFault → O.holds out.new ≡ O.holds out.old }
     ensures out { ((n : ℕ) (output : List ℕ) → form_of (map string_bytes words.now) ≢ Ok (Form.Generate n output)) → out.new ≡ out.old }

@@ -1,6 +1,5 @@
 //! Calls over files in memory: the answer, the line on `err`, and the file that is written.
 
-use crate::TEXT_LIMIT;
 use crate::call::make;
 use oc_base::memory::{MemFiles, MemSink};
 use std::alloc::Global;
@@ -127,7 +126,7 @@ fn a_call_answers_with_its_status_and_its_line(rt: HostRuntime) -> Result<(), Fa
 fn a_text_past_its_limit_is_too_long(rt: HostRuntime) -> Result<(), Fail> {
     let alloc = rt.alloc();
     let mut texts = Vec::new(alloc);
-    let text = vec![in alloc; b'\n'; TEXT_LIMIT + 1]?;
+    let text = vec![in alloc; b'\n'; 67108865]?;
     texts.push((String::from_str(alloc, "long.s")?, text))?;
     let mut files = MemFiles::new(texts, Vec::new(alloc));
     let mut out = MemSink::new(Vec::new(alloc), Vec::new(alloc));

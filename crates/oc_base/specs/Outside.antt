@@ -2,21 +2,30 @@
 --
 -- A device may tell its meaning or not: an `Option`, whose `Some` is what it tells.
 -- Each word below says one thing of what is told, and nothing where nothing is told.
-use Rattle.std.specs.Prelude.{◌≡◌, ℕ, ◌+◌, ◌^◌, ◌-◌, ◌<◌, ◌≤◌, ◌⊎◌, List, [], ◌∷◌, ◌++◌, length, take, drop, Option, Some, Result, OnErr, IsErr, IsErrOf, min}
+use Rattle.std.specs.Prelude.{◌≡◌, ℕ, ◌+◌, ◌^◌, ◌-◌, ◌<◌, ◌⊎◌, List, [], ◌∷◌, ◌++◌, length, take, drop, Option, Some, None, Result, OnOk, OnErr, IsErr, IsErrOf, min}
 use Rattle.std.specs.Option.{option_map, ForSome}
 
--- A count went up. A count of 64 bits that has come to its end stands still, and counts as risen.
-abbrev pub Rose : ℕ → ℕ → Type 0
-Rose before now = min (before + 1) (2 ^ 64 - 1) ≤ now
+-- the number after n; a count of 64 bits that has come to its end stands still
+abbrev pub next : ℕ → ℕ
+next n = min (n + 1) (2 ^ 64 - 1)
 
--- The count of a device's faults never falls, and an error means that it rose.
-pub record HasCause {T E : Type 0} (before now : ℕ) (result : Result T E) : Type 0 where
-  pub later : before ≤ now
+-- A device counts its faults, and one that can't fail has no count. One fault came, and so the device is one that can fail.
+abbrev pub Rose : (before now : Option ℕ) → Type 0
+Rose None now = ⊥
+Rose (Some count) now = now ≡ Some (next count)
+
+-- At most one fault came. A device that can't fail is one still.
+abbrev pub RoseAtMost : (before now : Option ℕ) → Type 0
+RoseAtMost before now = (now ≡ before) ⊎ Rose before now
+
+-- An error means that the device failed, and any other answer that it didn't.
+pub record HasCause {T E : Type 0} (before now : Option ℕ) (result : Result T E) : Type 0 where
+  pub kept : OnOk result (now ≡ before)
   pub failed : OnErr result (Rose before now)
 
 -- The same for a call with several errors, of which one means that the device failed.
-pub record HasCauseAt {T E : Type 0} (fault : E) (before now : ℕ) (result : Result T E) : Type 0 where
-  pub later : before ≤ now
+pub record HasCauseAt {T E : Type 0} (fault : E) (before now : Option ℕ) (result : Result T E) : Type 0 where
+  pub kept : (IsErrOf result fault → ⊥) → now ≡ before
   pub failed : IsErrOf result fault → Rose before now
 
 -- what is told, with these at its end
@@ -31,6 +40,10 @@ dropped n told = option_map (drop n) told
 pub record GainedPart {A : Type 0} (before now : Option (List A)) (more : List A) : Type 0 where
   pub count : ℕ
   pub part : now ≡ gained before (take count more)
+
+-- All of these came to its end, or the device failed, and a first part did.
+abbrev pub Gains : {A : Type 0} → (before now : Option (List A)) → (fault : Type 0) → List A → Type 0
+Gains before now fault more = (now ≡ gained before more) ⊎ (fault × GainedPart before now more)
 
 -- A first part of it is gone: all of it, some or none.
 pub record LostPart {A : Type 0} (before now : Option (List A)) : Type 0 where
@@ -49,6 +62,15 @@ HasFile told name bytes = ForSome told (λ disk. disk name ≡ Some bytes)
 abbrev pub IsLonger : Option Disk → List ℕ → ℕ → Type 0
 IsLonger told name limit = ForSome told (λ disk. (bytes : List ℕ) × (disk name ≡ Some bytes) × (limit < length bytes))
 
+-- The files tell that no file has this name.
+abbrev pub LacksFile : Option Disk → List ℕ → Type 0
+LacksFile None name = ⊥
+LacksFile (Some disk) name = disk name ≡ None
+
+-- Why a file wasn't given: the files failed, or they didn't and tell that there is none of this name.
+abbrev pub Misses : Option Disk → List ℕ → (before now : Option ℕ) → Type 0
+Misses told name before now = Rose before now ⊎ ((now ≡ before) × LacksFile told name)
+
 -- The name came to the end of those that were asked for. Where there was no room for it, nothing did, and the error says so.
 abbrev pub Asks : {T E : Type 0} → E → Option (List (List ℕ)) → Option (List (List ℕ)) → List ℕ → Result T E → Type 0
 Asks no_room before now name result = (now ≡ gained before (name ∷ [])) ⊎ ((now ≡ before) × IsErrOf result no_room)
@@ -65,7 +87,7 @@ HasNow before now name bytes = ForSome before (λ _. (new : Disk) × (now ≡ So
 abbrev pub SameElsewhere : Option Disk → Option Disk → List ℕ → Type 0
 SameElsewhere before now name = ForSome before (λ old. (new : Disk) × (now ≡ Some new) × ((other : List ℕ) → (other ≡ name → ⊥) → new other ≡ old other))
 
--- The files failed, and this name was the last that they were asked for.
-pub record TakeFailed (name : List ℕ) (asked : Option (List (List ℕ))) (before now : ℕ) : Type 0 where
-  pub rose : Rose before now
+-- The file of this name wasn't given, and the name was the last that the files were asked for.
+pub record TakeFailed (name : List ℕ) (told : Option Disk) (asked : Option (List (List ℕ))) (before now : Option ℕ) : Type 0 where
+  pub why : Misses told name before now
   pub last : ForSome asked (λ names. (earlier : List (List ℕ)) × (names ≡ earlier ++ name ∷ []))

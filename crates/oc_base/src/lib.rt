@@ -2,6 +2,7 @@
 //! and the small types that every crate above shares.
 #![tactic(auto)]
 
+pub mod calls;
 pub mod fault;
 pub mod files;
 pub mod items;

@@ -1,7 +1,7 @@
 //! The trusted edge: streams and files of the system. They tell neither contents nor names,
 //! and count each error that the system reports.
 
-ghost use Rattle.std.specs.Prelude.{◌≡◌, ℕ, List, Option, None};
+ghost use Rattle.std.specs.Prelude.{◌≡◌, ℕ, List, Option, Some, None};
 
 use crate::fault::{Failed, TakeFault};
 use crate::files::Files;
@@ -21,7 +21,7 @@ pub struct StdSource<R> {
 impl<R: Read> StdSource<R> {
     /// A source that no error has met yet.
     pub fn new(inner: R) -> Self
-        ensures { ⟦<StdSource<R> as Source>⟧.faults result ≡ 0 }
+        ensures { ⟦<StdSource<R> as Source>⟧.faults result ≡ Some 0 }
     {
         StdSource { inner, faults: 0 }
     }
@@ -32,7 +32,7 @@ impl<R: Read> Source for StdSource<R> {
 
     ghost reads = { λ _. 0 };
 
-    ghost faults = { λ s. s.faults };
+    ghost faults = { λ s. Some s.faults };
 
     fn read(&mut self, into: &mut [u8]) -> Result<usize, Failed> {
         let Ok(count) = self.inner.read(into) else {
@@ -53,7 +53,7 @@ pub struct StdSink<W> {
 impl<W: Write> StdSink<W> {
     /// A sink that no error has met yet.
     pub fn new(inner: W) -> Self
-        ensures { ⟦<StdSink<W> as Sink>⟧.faults result ≡ 0 }
+        ensures { ⟦<StdSink<W> as Sink>⟧.faults result ≡ Some 0 }
     {
         StdSink { inner, faults: 0 }
     }
@@ -62,7 +62,7 @@ impl<W: Write> StdSink<W> {
 impl<W: Write> Sink for StdSink<W> {
     ghost holds = { λ _. None };
 
-    ghost faults = { λ s. s.faults };
+    ghost faults = { λ s. Some s.faults };
 
     fn write(&mut self, piece: &[u8]) -> Result<usize, Failed> {
         match self.inner.write(piece) {
@@ -86,8 +86,8 @@ pub struct RealFiles<R> {
 impl<R: rt::Files> RealFiles<R> {
     /// Files that no error has met yet.
     pub fn new(runtime: R) -> Self
-        ensures takes { ⟦<RealFiles<R> as Files>⟧.take_faults result ≡ 0 }
-        ensures puts { ⟦<RealFiles<R> as Files>⟧.put_faults result ≡ 0 }
+        ensures takes { ⟦<RealFiles<R> as Files>⟧.take_faults result ≡ Some 0 }
+        ensures puts { ⟦<RealFiles<R> as Files>⟧.put_faults result ≡ Some 0 }
     {
         RealFiles {
             runtime,
@@ -102,9 +102,9 @@ impl<R: rt::Files> Files for RealFiles<R> {
 
     ghost asked = { λ _. None };
 
-    ghost take_faults = { λ s. s.take_faults };
+    ghost take_faults = { λ s. Some s.take_faults };
 
-    ghost put_faults = { λ s. s.put_faults };
+    ghost put_faults = { λ s. Some s.put_faults };
 
     fn take(&mut self, alloc: Global, name: &str, limit: usize) -> Result<Vec<u8>, TakeFault> {
         let Ok(file) = fs::open(&self.runtime, name) else {

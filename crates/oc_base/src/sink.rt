@@ -1,5 +1,5 @@
 ghost use Rattle.std.specs.Prelude.{◌≡◌, ℕ, ◌<◌, ◌≤◌, List, length, take, Option, IfOk, OnOk, OnErr};
-ghost use Rattle.oc_base.specs.Outside.{HasCause, gained, GainedPart};
+ghost use Rattle.oc_base.specs.Outside.{HasCause, Rose, gained, GainedPart, Gains};
 
 use crate::fault::Failed;
 
@@ -8,8 +8,8 @@ pub trait Sink {
     /// The bytes that it holds, where it tells.
     ghost holds: { Self → Option (List ℕ) };
 
-    /// How often a write has failed.
-    ghost faults: { Self → ℕ };
+    /// How often a write has failed, unless none can.
+    ghost faults: { Self → Option ℕ };
 
     /// Puts some first bytes of the piece, at least one, behind what the sink holds,
     /// and answers how many. A device that takes none has failed.
@@ -26,6 +26,7 @@ pub trait Sink {
 pub fn write_all<S: Sink>(sink: &mut S, piece: &[u8]) -> Result<(), Failed>
     ensures all { OnOk result (S.holds sink.new ≡ gained (S.holds sink.old) piece.now) }
     ensures part { GainedPart (S.holds sink.old) (S.holds sink.new) piece.now }
+    ensures gains { Gains (S.holds sink.old) (S.holds sink.new) (Rose (S.faults sink.old) (S.faults sink.new)) piece.now }
     ensures cause { HasCause (S.faults sink.old) (S.faults sink.new) result }
 {
     let mut at = 0;

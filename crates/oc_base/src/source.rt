@@ -13,8 +13,8 @@ pub trait Source {
     /// How often it was read, where it counts.
     ghost reads: { Self → ℕ };
 
-    /// How often a read has failed.
-    ghost faults: { Self → ℕ };
+    /// How often a read has failed, unless none can.
+    ghost faults: { Self → Option ℕ };
 
     /// Moves some first bytes of what is left to the front of `into`, and answers how many.
     /// Zero means that nothing is left.
@@ -41,6 +41,7 @@ pub fn read_all<S: Source>(
     ensures within { IfOk result (λ all. length all.items ≤ limit) }
     ensures too_long { result ≡ Err TakeFault.TooLong → ForSome (S.left source.old) (λ bytes. limit < length bytes) }
     ensures rest { LostPart (S.left source.old) (S.left source.new) }
+    ensures end { OnOk result (ForSome (S.left source.new) (λ left. left ≡ [])) }
     ensures reads { S.reads source.new ≤ S.reads source.old + limit + 2 }
     ensures cause { HasCauseAt TakeFault.Failed (S.faults source.old) (S.faults source.new) result }
 {

@@ -3,7 +3,7 @@
 use crate::fault::{Failed, TakeFault};
 use crate::files::Files;
 use crate::items::Items;
-use crate::memory::{MemFiles, MemSink, MemSource};
+use crate::memory::{MemFiles, MemSink, MemSource, NullSink};
 use crate::real::{RealFiles, StdSink, StdSource};
 use crate::sink::{Sink, write_all};
 use crate::source::{Source, read_all};
@@ -47,6 +47,7 @@ fn a_sink_holds_what_it_took_before_a_fault(rt: HostRuntime) -> Result<(), Fail>
     assert_eq!(rt; write_all(&mut sink, b""), Ok(()));
     assert_eq!(rt; sink.write(b"f"), Ok(1));
     assert_eq!(rt; sink.held(), b"abcf".as_slice());
+    assert_eq!(rt; write_all(&mut NullSink, b"any bytes"), Ok(()));
     Ok(())
 }
 

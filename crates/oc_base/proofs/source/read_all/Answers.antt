@@ -24,7 +24,7 @@ loop-count-preserved g c =
           let part = next_part _ _ all x c.read.new.into c.in-Ok.count told c.loop-count.invariant.left c.in-Ok.ensures.bytes in
           items ∙ longer_part all x c.read.new.into c.in-Ok.count (c.loop-count.invariant.bytes x told) part ∙ ap (λ n. take n x) (sym lens);
       reads = omega (arith, c.in-Ok.ensures.turn);
-      faults = omega (arith, c.in-Ok.ensures.cause.later);
+      faults = c.in-Ok.ensures.cause.kept ∙ c.loop-count.invariant.faults;
     }
 
 pub returns-then-count-limit-clause-rest : goal.returns-then-count-limit-clause-rest

@@ -12,7 +12,7 @@ invariant-loop-count g l =
       left : source.left l.source ≡ dropped (length l.all.items) (source.left l.fn.source);
       bytes : ForSome (source.left l.fn.source) (λ bytes. l.all.items ≡ take (length l.all.items) bytes);
       reads : source.reads l.source ≤ source.reads l.fn.source + length l.all.items;
-      faults : source.faults l.fn.source ≤ source.faults l.source;
+      faults : source.faults l.source ≡ source.faults l.fn.source;
     }
 
 abbrev pub decreases-loop-count : goal.decreases-loop-count
