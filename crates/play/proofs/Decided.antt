@@ -118,8 +118,12 @@ module _ (words : List (List ℕ)) (r : Read) (said : Words) (form : form_of wor
   pub why_program : {T : Type 0} (e : Ended) → (e ≢ NoMemory → RefusesFile said.program program_limit r.disk r.takes_before r.takes_now e)
       → Asks {T = T} NoMemory r.asked_before r.asked_now said.program (Err e) → r.left_now ≡ r.left_before → Decided words r (Err e)
   why_program e why asks left = unless_memory words r e (λ not. by_program e (record {
-      said = said; form = form; why = why not; asked = asked_it _ _ _ e not asks; left = left;
-    }))
+    said = said;
+    form = form;
+    why = why not;
+    asked = asked_it _ _ _ e not asks;
+    left = left;
+  }))
 
   -- the program's file was given
   module _ (told : Option Disk) (between : Option (List (List ℕ))) (takes : Option ℕ) (program : List ℕ) (same : told ≡ r.disk) (kept : takes ≡ r.takes_before)
@@ -128,10 +132,14 @@ module _ (words : List (List ℕ)) (r : Read) (said : Words) (form : form_of wor
     pub why_script : {T : Type 0} (e : Ended) → (e ≢ NoMemory → RefusesFile said.script script_limit told takes r.takes_now e)
         → Asks {T = T} NoMemory between r.asked_now said.script (Err e) → r.left_now ≡ r.left_before → Decided words r (Err e)
     why_script e why asks left = unless_memory words r e (λ not. by_script e (record {
-        said = said; form = form; program = program; given = given;
-        why = subst (λ x. RefusesFile said.script script_limit x r.takes_before r.takes_now e) same (subst (λ x. RefusesFile said.script script_limit told x r.takes_now e) kept (why not));
-        asked = both _ _ _ _ _ first (asked_it _ _ _ e not asks); left = left;
-      }))
+      said = said;
+      form = form;
+      program = program;
+      given = given;
+      why = subst (λ x. RefusesFile said.script script_limit x r.takes_before r.takes_now e) same (subst (λ x. RefusesFile said.script script_limit told x r.takes_now e) kept (why not));
+      asked = both _ _ _ _ _ first (asked_it _ _ _ e not asks);
+      left = left;
+    }))
 
     -- the script's file was given
     module _ (script : List ℕ) (given_too : Gives told said.script script_limit script) (second : r.asked_now ≡ gained between (said.script ∷ [])) where
@@ -141,18 +149,31 @@ module _ (words : List (List ℕ)) (r : Read) (said : Words) (form : form_of wor
       -- the input was refused
       pub why_input : (e : Ended) → (e ≢ NoMemory → RefusesInput r.left_before r.reads_before r.reads_now e) → LostPart r.left_before r.left_now → Decided words r (Err e)
       why_input e why left = unless_memory words r e (λ not. by_input e (record {
-          said = said; form = form; program = program; script = script; given = given; given_too = script_given;
-          why = why not; asked = both _ _ _ _ _ first second; left = left;
-        }))
+        said = said;
+        form = form;
+        program = program;
+        script = script;
+        given = given;
+        given_too = script_given;
+        why = why not;
+        asked = both _ _ _ _ _ first second;
+        left = left;
+      }))
 
       -- all was given
       module _ (input : List ℕ) (is_input : ForSome r.left_before (λ all. input_within all ≡ Ok input)) (left : ForSome r.left_now (λ left. left ≡ [])) where
         contents : (d : Result Delivery Ended) → Delivers (given-with said program script input) d → Decided words r d
         contents d delivers = by_contents d (record {
-            said = said; form = form; given = given-with said program script input; region = refl; shown = refl;
-            read = λ disk tells all tells'. given-all words disk all said program script input form (given disk tells) (script_given disk tells) (is_input all tells');
-            delivers = delivers; asked = both _ _ _ _ _ first second; left = left;
-          })
+          said = said;
+          form = form;
+          given = given-with said program script input;
+          region = refl;
+          shown = refl;
+          read = λ disk tells all tells'. given-all words disk all said program script input form (given disk tells) (script_given disk tells) (is_input all tells');
+          delivers = delivers;
+          asked = both _ _ _ _ _ first second;
+          left = left;
+        })
 
         -- what the bytes deliver or refuse
         pub why_run : (d : Result Delivery Ended) → Because ⊥ (λ name. ⊥) (Delivers (given-with said program script input)) d → Decided words r d

@@ -330,12 +330,7 @@ fn check_long(
 
 #[test]
 fn what_is_past_its_limit_is_too_long(rt: HostRuntime) -> Result<(), Fail> {
-    check_long(
-        &rt,
-        (67108865, 0),
-        126,
-        "ocolos: too long long.elf\n",
-    )?;
+    check_long(&rt, (67108865, 0), 126, "ocolos: too long long.elf\n")?;
     check_long(&rt, (0, 16777217), 126, "ocolos: too long input\n")?;
     check_long(&rt, (0, 16777216), 123, "ocolos: program elf 1 0\n")
 }
