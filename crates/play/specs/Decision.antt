@@ -24,8 +24,15 @@ use Rattle.world.specs.Worlds.{Replaced, started}
 use Rattle.world.specs.Told.{facts_of}
 use Rattle.play_words.specs.Words.{words_of}
 use Rattle.play_words.specs.declared.words.Words.{Words}
-use Rattle.play.specs.declared.TheConstants.{PROGRAM_LIMIT, SCRIPT_LIMIT}
 use Rattle.play.specs.Events.{Played}
+
+-- the most bytes of a program's file
+abbrev pub program_limit : ℕ
+program_limit = 67108864
+
+-- the most bytes of a script's file
+abbrev pub script_limit : ℕ
+script_limit = 536870912
 
 -- a step that may refuse, and then the next
 infixl 10 ◌>>=◌
@@ -118,8 +125,8 @@ Delivers given d = (image : Result Picture ProgramFault) × Builds given.program
 unfoldable pub given_by : (words : List (List ℕ)) → Disk → (input : List ℕ) → Result Given Ended
 given_by words disk input = do
   said ← form_of words
-  program ← within said.program PROGRAM_LIMIT (disk said.program)
-  script ← within said.script SCRIPT_LIMIT (disk said.script)
+  program ← within said.program program_limit (disk said.program)
+  script ← within said.script script_limit (disk said.script)
   bytes ← input_within input
   Ok (record { program = program; script = script; input = bytes; region = said.region; shown = said.report })
 

@@ -1,7 +1,8 @@
 //! The call itself: decide from words, files and input, make all text, write it.
 
-ghost use Rattle.std.specs.Prelude.{◌≡◌, ◌≢◌, ◌⊎◌, ℕ, ◌≤◌, List, map, Result, Ok, Err, string_bytes};
-ghost use Rattle.oc_base.specs.Outside.{Rose, Disk, GainedPart, LostPart, TakeFailed};
+ghost use Rattle.std.specs.Prelude.{◌≡◌, ◌≢◌, ◌⊎◌, ℕ, List, [], map, Result, Ok, Err, string_bytes};
+ghost use Rattle.std.specs.Option.{ForSome};
+ghost use Rattle.oc_base.specs.Outside.{Rose, RoseAtMost, Disk, gained, GainedPart, LostPart, TakeFailed};
 ghost use Rattle.machine.specs.declared.outcome.Outcome.{Outcome};
 ghost use Rattle.play_words.specs.Words.{names_of};
 ghost use Rattle.report.specs.Answer.{status_of};
@@ -16,13 +17,12 @@ ghost use Rattle.play.specs.Originals.{RunsOriginally};
 use crate::run::run;
 use crate::{PROGRAM_LIMIT, SCRIPT_LIMIT};
 use oc_base::files::Files;
-use oc_base::items::Items;
-use oc_base::sink::{Sink, write_all};
+use oc_base::sink::Sink;
 use oc_base::source::Source;
 use play_words::words::{WordsFault, read_words};
 use report::answer::{Answer, Ended};
 use report::reading::{fetch, fetch_input};
-use report::writing::{Delivery, deliver, prepare};
+use report::writing::{Delivery, deliver, give_up, prepare};
 use std::alloc::Global;
 
 // What the words, the files and the input ask for.
@@ -34,8 +34,10 @@ fn decide<F: Files, I: Source>(
 ) -> Result<Delivery, Ended>
     ensures why { Decided (map string_bytes words.now) (record {
       disk = F.disk files.old;
-      input = I.left input.old;
-      asked = F.asked files.new;
+      asked_before = F.asked files.old;
+      asked_now = F.asked files.new;
+      left_before = I.left input.old;
+      left_now = I.left input.new;
       takes_before = F.take_faults files.old;
       takes_now = F.take_faults files.new;
       reads_before = I.faults input.old;
@@ -43,10 +45,10 @@ fn decide<F: Files, I: Source>(
     }) result }
     ensures asked { GainedPart (F.asked files.old) (F.asked files.new) (names_of (map string_bytes words.now)) }
     ensures disk { F.disk files.new ≡ F.disk files.old }
-    ensures takes { F.take_faults files.old ≤ F.take_faults files.new }
+    ensures takes { RoseAtMost (F.take_faults files.old) (F.take_faults files.new) }
     ensures puts { F.put_faults files.new ≡ F.put_faults files.old }
     ensures rest { LostPart (I.left input.old) (I.left input.new) }
-    ensures reads { I.faults input.old ≤ I.faults input.new }
+    ensures reads { RoseAtMost (I.faults input.old) (I.faults input.new) }
 {
     let said = match read_words(alloc, words) {
         Ok(said) => said,
@@ -73,7 +75,7 @@ fn decide<F: Files, I: Source>(
 /// The words are the names of the program and of the script, and options: a region for moved code, and whether the report is
 /// written. `files` gives both files, `input` what the guest reads, `out` takes what the guest writes to its first output, and `err`
 /// what it writes to its second, then the report, and then the last line. The answer has the report of a run, written or not.
-/// On every refusal only the last line is written; want of memory is such a refusal, and its line may be lost.
+/// On every refusal only the last line is written; to run out of memory is such a refusal.
 pub fn play<F: Files, I: Source, O: Sink, E: Sink>(
     alloc: Global,
     words: &[String],
@@ -85,17 +87,20 @@ pub fn play<F: Files, I: Source, O: Sink, E: Sink>(
     ensures status { result.status ≡ status_of result.ended }
 
     // Where files and input tell, a run that is answered is the run of their bytes, all that it delivers is written, and its report is
-    // answered.
+    // answered. Told or not, both files were asked for and the input was read to its end.
     ensures ran { (outcome : Outcome) → result.ended ≡ Ended.Ran outcome →
         Told (F.disk files.old) (I.left input.old) (λ disk given. AllDone (map string_bytes words.now) disk given
         (O.holds out.old) (O.holds out.new) (E.holds err.old) (E.holds err.new) result.ended result.report) }
+    ensures ran_asks { (outcome : Outcome) → result.ended ≡ Ended.Ran outcome
+        → F.asked files.new ≡ gained (F.asked files.old) (names_of (map string_bytes words.now)) }
+    ensures ran_reads { (outcome : Outcome) → result.ended ≡ Ended.Ran outcome → ForSome (I.left input.new) (λ left. left ≡ []) }
     ensures unreported { Unreported result.ended result.report }
 
     // Whatever the script moves, a run that is asked for is that of the original machine, with the steps of layouts left out.
     ensures original { (disk : Disk) (given : List ℕ) (d : Delivery) → Decides (map string_bytes words.now) disk given (Ok d)
         → RunsOriginally (map string_bytes words.now) disk given d }
 
-    // The answer is the one that words, files and input ask for, but for a fault of a device and for want of memory.
+    // The answer is the one that words, files and input ask for, but for a fault of a device and when out of memory.
     ensures answer { Told (F.disk files.old) (I.left input.old) (λ disk given.
         Settles (AsksFor (map string_bytes words.now) disk given) result.ended) }
 
@@ -105,18 +110,23 @@ pub fn play<F: Files, I: Source, O: Sink, E: Sink>(
 
     // Each refusal has its cause, told or not.
     ensures usage { result.ended ≡ Ended.Usage → form_of (map string_bytes words.now) ≡ Err Ended.Usage }
+    ensures usage_asks { result.ended ≡ Ended.Usage → F.asked files.new ≡ F.asked files.old }
+    ensures usage_reads { result.ended ≡ Ended.Usage → I.left input.new ≡ I.left input.old }
     ensures read_fault { (name : List ℕ) → result.ended ≡ Ended.ReadFault name →
-        TakeFailed name (F.asked files.new) (F.take_faults files.old) (F.take_faults files.new)
+        TakeFailed name (F.disk files.old) (F.asked files.new) (F.take_faults files.old) (F.take_faults files.new)
         ⊎ InputFailed name (I.faults input.old) (I.faults input.new) }
     ensures write_fault { result.ended ≡ Ended.WriteFault →
         Rose (O.faults out.old) (O.faults out.new) ⊎ Rose (E.faults err.old) (E.faults err.new) }
 
-    // What was decided is written, up to a fault.
-    ensures bytes { GaveUp (O.holds out.old) (O.holds out.new) (E.holds err.old) (E.holds err.new) result.ended
+    // What was decided, at its place and for its reason, is written, up to a fault.
+    ensures bytes { GaveUp (O.holds out.old) (O.holds out.new) (E.holds err.old) (E.holds err.new)
+        (Rose (E.faults err.old) (E.faults err.new)) result.ended
         ⊎ Delivered (Decided (map string_bytes words.now) (record {
           disk = F.disk files.old;
-          input = I.left input.old;
-          asked = F.asked files.new;
+          asked_before = F.asked files.old;
+          asked_now = F.asked files.new;
+          left_before = I.left input.old;
+          left_now = I.left input.new;
           takes_before = F.take_faults files.old;
           takes_now = F.take_faults files.new;
           reads_before = I.faults input.old;
@@ -125,7 +135,7 @@ pub fn play<F: Files, I: Source, O: Sink, E: Sink>(
         (O.holds out.old) (O.holds out.new) (E.holds err.old) (E.holds err.new)
         (Rose (O.faults out.old) (O.faults out.new)) (Rose (E.faults err.old) (E.faults err.new)) result.ended }
 
-    // Where no count rises and memory is there, the answer and the bytes are those that are asked for.
+    // Where no device fails and memory is there, the answer and the bytes are those that are asked for.
     ensures complete { Told (F.disk files.old) (I.left input.old) (λ disk given.
         (Rose (F.take_faults files.old) (F.take_faults files.new) → ⊥) → (Rose (I.faults input.old) (I.faults input.new) → ⊥)
         → (Rose (O.faults out.old) (O.faults out.new) → ⊥) → (Rose (E.faults err.old) (E.faults err.new) → ⊥)
@@ -140,14 +150,15 @@ pub fn play<F: Files, I: Source, O: Sink, E: Sink>(
 
     // The input loses a first part of its bytes.
     ensures input { LostPart (I.left input.old) (I.left input.new) }
+
+    // Each device fails once at most, and one that can't fail doesn't.
+    ensures takes { RoseAtMost (F.take_faults files.old) (F.take_faults files.new) }
+    ensures reads { RoseAtMost (I.faults input.old) (I.faults input.new) }
+    ensures out_faults { RoseAtMost (O.faults out.old) (O.faults out.new) }
+    ensures err_faults { RoseAtMost (E.faults err.old) (E.faults err.new) }
 {
     let Ok(writing) = prepare(alloc, decide(alloc, words, files, input)) else {
-        let _ = write_all(err, b"ocolos: out of memory\n");
-        return Answer {
-            status: 125,
-            ended: Ended::NoMemory,
-            report: Items::new(alloc),
-        };
+        return give_up(alloc, err);
     };
     deliver(alloc, writing, out, err)
 }

@@ -1,9 +1,7 @@
 //! Calls over files, an input and outputs in memory: what is answered and what is written.
 
-use crate::PROGRAM_LIMIT;
 use crate::call::play;
 use oc_base::memory::{MemFiles, MemSink, MemSource};
-use report::INPUT_LIMIT;
 use std::alloc::Global;
 use std::process::Abort;
 use std::test::Fail;
@@ -332,12 +330,7 @@ fn check_long(
 
 #[test]
 fn what_is_past_its_limit_is_too_long(rt: HostRuntime) -> Result<(), Fail> {
-    check_long(
-        &rt,
-        (PROGRAM_LIMIT + 1, 0),
-        126,
-        "ocolos: too long long.elf\n",
-    )?;
-    check_long(&rt, (0, INPUT_LIMIT + 1), 126, "ocolos: too long input\n")?;
-    check_long(&rt, (0, INPUT_LIMIT), 123, "ocolos: program elf 1 0\n")
+    check_long(&rt, (67108865, 0), 126, "ocolos: too long long.elf\n")?;
+    check_long(&rt, (0, 16777217), 126, "ocolos: too long input\n")?;
+    check_long(&rt, (0, 16777216), 123, "ocolos: program elf 1 0\n")
 }

@@ -4,7 +4,14 @@ use Rattle.std.specs.List.{list_all, before_first, after_first, slice_index_or}
 use Rattle.texts.specs.Texts.{is_digit, value_of}
 use Rattle.asm_text.specs.Numbers.{is_hex_digit, hex_value_of}
 use Rattle.oc_base.specs.declared.range.Range.{Range}
-use Rattle.play_words.specs.declared.TheConstants.{PAGE, LARGEST_REGION}
+
+-- the bytes of a page
+abbrev pub page : ℕ
+page = 4096
+
+-- the most bytes of a region
+abbrev pub largest_region : ℕ
+largest_region = 8388608
 
 -- from 1 to `most` digits
 abbrev pub is_short : (ℕ → Bool) → (most : ℕ) → List ℕ → Bool
@@ -26,7 +33,7 @@ number_of word = if is_marked word then hex_of (drop 2 word) else decimal_of wor
 
 -- both are multiples of a page, and the size is from one page to the largest of a region
 abbrev pub is_paged : (base size : ℕ) → Bool
-is_paged base size = (base % PAGE == 0) && ((size % PAGE == 0) && (nat_le PAGE size && nat_le size LARGEST_REGION))
+is_paged base size = (base % page == 0) && ((size % page == 0) && (nat_le page size && nat_le size largest_region))
 
 -- the region that begins at a base and has a size
 unfoldable pub region_from : Option ℕ → Option ℕ → Option Range

@@ -1,6 +1,6 @@
 -- Why a call ended as it did, and what it has written by then.
 use Rattle.std.specs.Prelude.{◌≡◌, ◌≢◌, ◌⊎◌, ℕ, List, [], ◌++◌, Option, Result, Ok, Err, if◌then◌else◌}
-use Rattle.oc_base.specs.Outside.{gained, GainedPart}
+use Rattle.oc_base.specs.Outside.{gained, GainedPart, Gains}
 use Rattle.report.specs.declared.answer.Ended.{Ended}
 use Rattle.report.specs.declared.answer.Ended.TheVariants.{Ran, Usage, ReadFault, WriteFault, NoMemory}
 use Rattle.report.specs.declared.writing.Writing.{Writing}
@@ -8,7 +8,7 @@ use Rattle.report.specs.declared.writing.Delivery.{Delivery}
 use Rattle.report.specs.Answer.{line_of}
 
 -- The reason of a refusal before the run: the words (usage), the device that was read under this name (fault), or that what was
--- given asks for this very refusal (is). Want of memory needs none.
+-- given asks for this very refusal (is). To run out of memory needs none.
 abbrev pub Reason : (usage : Type 0) (fault : List ℕ → Type 0) (is : Ended → Type 0) → Ended → Type 0
 Reason usage fault is Usage = usage
 Reason usage fault is (ReadFault name) = fault name
@@ -79,11 +79,11 @@ abbrev pub Wrote : Writing → (out_was out_now err_was err_now : Option (List �
 Wrote writing out_was out_now err_was err_now out_fault err_fault answer =
     AllWritten writing out_was out_now err_was err_now answer ⊎ (OutFailed writing out_was out_now err_was err_now out_fault answer ⊎ ErrFailed writing out_was out_now err_was err_now err_fault answer)
 
--- There was no room in memory, and nothing was written but a first part of the last line.
-pub record GaveUp (out_was out_now err_was err_now : Option (List ℕ)) (answer : Ended) : Type 0 where
+-- The call ran out of memory, and nothing was written but the last line: all of it, or a first part where the second output failed.
+pub record GaveUp (out_was out_now err_was err_now : Option (List ℕ)) (err_fault : Type 0) (answer : Ended) : Type 0 where
   pub ended : answer ≡ NoMemory
   pub out : out_now ≡ out_was
-  pub err : GainedPart err_was err_now (line_of NoMemory)
+  pub err : Gains err_was err_now err_fault (line_of NoMemory)
 
 -- Something was decided for this reason, and was written.
 pub record Delivered (reason : Result Delivery Ended → Type 0) (out_was out_now err_was err_now : Option (List ℕ)) (out_fault err_fault : Type 0) (answer : Ended) : Type 0 where
@@ -92,7 +92,7 @@ pub record Delivered (reason : Result Delivery Ended → Type 0) (out_was out_no
   pub because : reason decision
   pub wrote : Wrote (writing_of decision) out_was out_now err_was err_now out_fault err_fault answer
 
--- The answer is one that is asked for, but for a fault of a device and for want of memory.
+-- The answer is one that is asked for, but for a fault of a device and when out of memory.
 abbrev pub Settles : (asked : Ended → Type 0) → Ended → Type 0
 Settles asked (ReadFault name) = Unit {0}
 Settles asked WriteFault = Unit {0}

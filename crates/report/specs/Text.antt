@@ -34,7 +34,7 @@ why_text (Misaimed at) = codes "3 " ++ address at
 why_text (Overlap func) = codes "4 " ++ decimal func
 why_text _ = codes "0 0"
 
--- the line of a refused attempt; want of memory, which no report tells of, has none
+-- the line of a refused attempt; one that ran out of memory, which no report tells of, has none
 abbrev pub refusal_text : ℕ → Refusal → List ℕ
 refusal_text k (RegionFull need largest) = codes "refusal " ++ decimal k ++ codes " region " ++ decimal need ++ codes " " ++ decimal largest ++ codes "\n"
 refusal_text k (BranchReach at target) = codes "refusal " ++ decimal k ++ codes " reach " ++ address at ++ codes " " ++ address target ++ codes "\n"

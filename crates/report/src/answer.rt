@@ -33,13 +33,13 @@ pub enum Ended {
     ReadFault(Text),
     /// What has this name, a file or the input, is longer than its limit.
     TooLong(Text),
-    /// The file of the program is none, for its first fault. Want of memory is never this fault.
+    /// The file of the program is none, for its first fault. To be out of memory is never this fault.
     Program(ProgramFault),
-    /// The script is none, for the first line with a fault. Want of memory is never this fault.
+    /// The script is none, for the first line with a fault. To be out of memory is never this fault.
     Script(ScriptFault),
     /// An output could not be written.
     WriteFault,
-    /// There was no room in memory.
+    /// The call ran out of memory.
     NoMemory,
 }
 

@@ -1,8 +1,8 @@
 //! What a call writes, and writing it.
 
-ghost use Rattle.std.specs.Prelude.{◌≡◌, ◌≢◌, ◌≤◌, ◌++◌, [], Err, IfOk, if◌then◌else◌};
-ghost use Rattle.oc_base.specs.Outside.{Rose};
-ghost use Rattle.report.specs.Answer.{status_of};
+ghost use Rattle.std.specs.Prelude.{◌≡◌, ◌≢◌, ◌++◌, [], Err, IfOk, if◌then◌else◌};
+ghost use Rattle.oc_base.specs.Outside.{Rose, RoseAtMost, Gains};
+ghost use Rattle.report.specs.Answer.{status_of, line_of};
 ghost use Rattle.report.specs.Cause.{writing_of, reported, shown_of, Wrote};
 
 use crate::answer::{Answer, Ended, status};
@@ -51,7 +51,7 @@ fn shown(report: &[u8], is_shown: bool) -> &[u8]
     if is_shown { report } else { &[] }
 }
 
-/// All text of a decision, made before the first byte is written. Want of memory has no text.
+/// All text of a decision, made before the first byte is written. A decision that was never made, when out of memory, has no text.
 pub fn prepare(alloc: Global, decision: Result<Delivery, Ended>) -> Result<Writing, NoMemory>
     ensures is { IfOk result (λ writing. writing ≡ writing_of decision) }
     ensures memory { IfOk result (λ _. decision ≢ Err Ended.NoMemory) }
@@ -122,6 +122,20 @@ fn answered(alloc: Global, writing: Writing) -> Answer
     }
 }
 
+/// The answer of a call that ran out of memory. Its last line is written, up to a fault.
+pub fn give_up<E: Sink>(alloc: Global, err: &mut E) -> Answer
+    ensures is { result ≡ (record { status = 125; ended = Ended.NoMemory; report = [] }) }
+    ensures line { Gains (E.holds err.old) (E.holds err.new) (Rose (E.faults err.old) (E.faults err.new)) (line_of Ended.NoMemory) }
+    ensures faults { RoseAtMost (E.faults err.old) (E.faults err.new) }
+{
+    let _ = write_all(err, b"ocolos: out of memory\n");
+    Answer {
+        status: status(&Ended::NoMemory),
+        ended: Ended::NoMemory,
+        report: Items::new(alloc),
+    }
+}
+
 /// Writes the first output and then the second, until one fails.
 pub fn deliver<O: Sink, E: Sink>(
     alloc: Global,
@@ -133,8 +147,8 @@ pub fn deliver<O: Sink, E: Sink>(
     ensures wrote { Wrote writing (O.holds out.old) (O.holds out.new) (E.holds err.old) (E.holds err.new)
         (Rose (O.faults out.old) (O.faults out.new)) (Rose (E.faults err.old) (E.faults err.new)) result.ended }
     ensures report { result.report ≡ reported writing result.ended }
-    ensures out_faults { O.faults out.old ≤ O.faults out.new }
-    ensures err_faults { E.faults err.old ≤ E.faults err.new }
+    ensures out_faults { RoseAtMost (O.faults out.old) (O.faults out.new) }
+    ensures err_faults { RoseAtMost (E.faults err.old) (E.faults err.new) }
 {
     let Ok(()) = write_all(out, writing.out.as_slice()) else {
         return unwritten(alloc);

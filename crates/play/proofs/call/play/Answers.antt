@@ -1,7 +1,8 @@
+use Rattle.play.proofs.Decided.{ran_names}
 use Rattle.play.proofs.OneDecision.{one_decision}
 use Rattle.play.proofs.Whole.{runs_originally}
 use Rattle.play.proofs.WorldLaws.{laws, one_result}
-use Rattle.play.proofs.Written.{written_settles, written_whole, written_ran, unreported}
+use Rattle.play.proofs.Written.{written_settles, written_whole, written_ran, written_usage, written_run, written_failed, unreported}
 use Rattle.play.proofs.call.play.Goals as goal
 
 pub returns-clause-answer : goal.returns-clause-answer
@@ -30,3 +31,21 @@ returns-clause-original g c = runs_originally laws _
 
 pub returns-in_default-clause-original : goal.returns-in_default-clause-original
 returns-in_default-clause-original g c = runs_originally laws _
+
+pub returns-clause-usage : goal.returns-clause-usage
+returns-clause-usage g c = λ is. (written_usage _ _ c.decide.result c.in-Ok.writing _ _ _ _ _ _ _ c.decide.ensures.why c.in-Ok.ensures.is c.deliver.ensures.wrote is).form
+
+pub returns-clause-usage_asks : goal.returns-clause-usage_asks
+returns-clause-usage_asks g c = λ is. (written_usage _ _ c.decide.result c.in-Ok.writing _ _ _ _ _ _ _ c.decide.ensures.why c.in-Ok.ensures.is c.deliver.ensures.wrote is).asked
+
+pub returns-clause-usage_reads : goal.returns-clause-usage_reads
+returns-clause-usage_reads g c = λ is. (written_usage _ _ c.decide.result c.in-Ok.writing _ _ _ _ _ _ _ c.decide.ensures.why c.in-Ok.ensures.is c.deliver.ensures.wrote is).left
+
+pub returns-clause-ran_asks : goal.returns-clause-ran_asks
+returns-clause-ran_asks g c = λ outcome is. let b = written_run _ _ c.decide.result c.in-Ok.writing _ _ _ _ _ _ _ c.decide.ensures.why c.in-Ok.ensures.is outcome c.deliver.ensures.wrote is in ran_names _ _ _ b
+
+pub returns-clause-ran_reads : goal.returns-clause-ran_reads
+returns-clause-ran_reads g c = λ outcome is. (written_run _ _ c.decide.result c.in-Ok.writing _ _ _ _ _ _ _ c.decide.ensures.why c.in-Ok.ensures.is outcome c.deliver.ensures.wrote is).left
+
+pub returns-clause-read_fault : goal.returns-clause-read_fault
+returns-clause-read_fault g c = λ name is. written_failed _ _ c.decide.result c.in-Ok.writing _ _ _ _ _ _ _ c.decide.ensures.why c.in-Ok.ensures.is name c.deliver.ensures.wrote is
