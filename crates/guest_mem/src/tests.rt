@@ -2,6 +2,7 @@ ghost use Rattle.std.specs.Prelude.{◌≡◌, IfSome};
 
 use crate::fault::{Access, StoreFault};
 use crate::flat::FlatMem;
+use crate::paged::PagedMem;
 use crate::store::GuestStore;
 use link_tags::origins::{Origins, Same};
 use link_tags::value::Value;
@@ -24,20 +25,27 @@ impl Origins for One {
 
 const AT: u64 = 0x0ff0_0000;
 
-/// A memory whose first 64 bytes from AT may be read and written.
-fn page(alloc: Global) -> Result<FlatMem, NoMemory> {
+/// The first 64 bytes from AT may be read and written.
+const FIRST: Range = Range {
+    from: AT,
+    to: AT + 64,
+};
+
+fn flat(alloc: Global) -> Result<FlatMem, NoMemory> {
     let mut mem = FlatMem::new(alloc);
-    let range = Range {
-        from: AT,
-        to: AT + 64,
-    };
-    mem.map(range, true, true)?;
+    mem.map(FIRST, true, true)?;
+    Ok(mem)
+}
+
+fn paged(alloc: Global) -> Result<PagedMem, NoMemory> {
+    let mut mem = PagedMem::new(alloc)?;
+    mem.map(FIRST, true, true)?;
     Ok(mem)
 }
 
 #[test]
 fn a_link_is_seen_by_its_original_number_and_broken_by_a_byte(rt: HostRuntime) -> Result<(), Fail> {
-    let mut mem = page(rt.alloc())?;
+    let mut mem = paged(rt.alloc())?;
     let link = Value::link(0x12014);
     assert_eq!(rt; mem.store(AT, Width::D, link, &One), Ok(()));
     let loads = [
@@ -69,7 +77,7 @@ fn a_link_is_seen_by_its_original_number_and_broken_by_a_byte(rt: HostRuntime) -
 fn narrow_loads_extend_and_narrow_stores_of_links_store_what_is_seen(
     rt: HostRuntime,
 ) -> Result<(), Fail> {
-    let mut mem = page(rt.alloc())?;
+    let mut mem = flat(rt.alloc())?;
     let all = Value::plain(0x8899_aabb_ccdd_eeff);
     assert_eq!(rt; mem.store(AT, Width::D, all, &One), Ok(()));
     let loads = [
@@ -99,7 +107,7 @@ fn narrow_loads_extend_and_narrow_stores_of_links_store_what_is_seen(
 
 #[test]
 fn misalignment_is_found_before_a_missing_right(rt: HostRuntime) -> Result<(), Fail> {
-    let mut mem = page(rt.alloc())?;
+    let mut mem = paged(rt.alloc())?;
     let rights = Range {
         from: AT + 60,
         to: AT + 64,
@@ -138,7 +146,7 @@ fn misalignment_is_found_before_a_missing_right(rt: HostRuntime) -> Result<(), F
 
 #[test]
 fn transfers_go_by_what_is_seen_and_make_words_plain(rt: HostRuntime) -> Result<(), Fail> {
-    let mut mem = page(rt.alloc())?;
+    let mut mem = paged(rt.alloc())?;
     assert_eq!(rt; mem.store(AT, Width::D, Value::link(0x12014), &One), Ok(()));
     assert_eq!(rt;
         mem.store(AT + 8, Width::D, Value::link(0x12018), &One),
@@ -175,7 +183,7 @@ fn transfers_go_by_what_is_seen_and_make_words_plain(rt: HostRuntime) -> Result<
 
 #[test]
 fn mapping_makes_bytes_zero_and_plain(rt: HostRuntime) -> Result<(), Fail> {
-    let mut mem = page(rt.alloc())?;
+    let mut mem = paged(rt.alloc())?;
     let link = Value::link(0x12014);
     for at in [AT + 40, AT + 8, AT + 24] {
         assert_eq!(rt; mem.store(at, Width::D, link, &One), Ok(()));
@@ -237,9 +245,88 @@ fn stored_and_loaded<M: GuestStore, O: Origins>(
 
 #[test]
 fn a_whole_word_comes_back(rt: HostRuntime) -> Result<(), Fail> {
-    let mut mem = page(rt.alloc())?;
     let link = Value::link(0x12014);
+    let mut mem = flat(rt.alloc())?;
     assert_eq!(rt; stored_and_loaded(&mut mem, AT, link, &One), Some(link));
     assert_eq!(rt; stored_and_loaded(&mut mem, AT + 64, link, &One), None);
+    let mut mem = paged(rt.alloc())?;
+    assert_eq!(rt; stored_and_loaded(&mut mem, AT, link, &One), Some(link));
+    assert_eq!(rt; stored_and_loaded(&mut mem, AT + 64, link, &One), None);
+    Ok(())
+}
+
+/// A memory of which the pages 1 and 2 may be read and written.
+fn two_pages(alloc: Global) -> Result<PagedMem, NoMemory> {
+    let mut mem = PagedMem::new(alloc)?;
+    let pages = Range {
+        from: 0x1000,
+        to: 0x3000,
+    };
+    mem.map(pages, true, true)?;
+    Ok(mem)
+}
+
+#[test]
+fn bytes_of_a_page_may_differ_in_rights(rt: HostRuntime) -> Result<(), Fail> {
+    let mut mem = two_pages(rt.alloc())?;
+    let middle = Range {
+        from: 0x1800,
+        to: 0x2800,
+    };
+    mem.set_rights(middle, false, true)?;
+    let loads = [
+        (0xfff, Err(Access::NoAccess)),
+        (0x1000, Ok(Value::plain(0))),
+        (0x17ff, Ok(Value::plain(0))),
+        (0x1800, Err(Access::NoAccess)),
+        (0x27ff, Err(Access::NoAccess)),
+        (0x2800, Ok(Value::plain(0))),
+        (0x3000, Err(Access::NoAccess)),
+    ];
+    for (at, answer) in loads {
+        assert_eq!(rt; mem.load(at, Width::Bu, &Same), answer);
+    }
+    Ok(())
+}
+
+#[test]
+fn bytes_are_put_over_the_end_of_a_page(rt: HostRuntime) -> Result<(), Fail> {
+    let mut mem = two_pages(rt.alloc())?;
+    let link = Value::link(0x12014);
+    for at in [0x1ff8, 0x2000] {
+        assert_eq!(rt; mem.store(at, Width::D, link, &One), Ok(()));
+    }
+    assert_eq!(rt; mem.put_bytes(0x1ffe, &[1, 2, 3], &One), Ok(()));
+    let words = [(0x1ff8, 0x0201_0000_0001_0028), (0x2000, 0x10003)];
+    for (at, number) in words {
+        assert_eq!(rt; mem.load(at, Width::D, &One), Ok(Value::plain(number)));
+    }
+    let taken = mem.take_bytes(rt.alloc(), 0x1ffd, 5, &One)?;
+    assert_eq!(rt; taken.as_slice(), [0, 1, 2, 3, 0].as_slice());
+    Ok(())
+}
+
+#[test]
+fn links_are_found_beside_pages_and_parts_that_are_unmapped(rt: HostRuntime) -> Result<(), Fail> {
+    let mut mem = PagedMem::new(rt.alloc())?;
+    let most = Range {
+        from: 0,
+        to: 0x0c00_0000,
+    };
+    mem.map(most, true, true)?;
+    let places = [0, 0x1ff8, 0x2000, 0x3ff8, 0x4000, 0x0bff_fff8];
+    for at in places {
+        assert_eq!(rt; mem.store(at, Width::D, Value::link(at), &Same), Ok(()));
+    }
+    let gone = Range {
+        from: 0x2000,
+        to: 0x3ff8,
+    };
+    mem.unmap(gone)?;
+    let left = [(0, 0), (0x1ff8, 0x1ff8), (0x3ff8, 0x3ff8), (0x4000, 0x4000), (0x0bff_fff8, 0x0bff_fff8)];
+    assert_eq!(rt; mem.links(rt.alloc())?.as_slice(), left.as_slice());
+    assert_eq!(rt; mem.load(0x2000, Width::D, &Same), Err(Access::NoAccess));
+    mem.unmap(most)?;
+    assert!(rt; mem.links(rt.alloc())?.is_empty());
     Ok(())
 }

@@ -5,11 +5,17 @@
 
 use elf_make::make::make_elf;
 use elf_read::read::read_elf;
+use guest_mem::fault::Access;
+use guest_mem::paged::PagedMem;
+use guest_mem::store::GuestStore;
 use hart::hart::Status;
 use image::picture::Image;
+use link_tags::origins::Same;
+use link_tags::value::Value;
 use machine::machine::Machine;
 use relocs::build::build_image;
 use rv_asm::assemble::assemble;
+use rv_isa::instr::Width;
 use std::alloc::{AllocError, Global};
 use std::test::Fail;
 
@@ -493,5 +499,22 @@ fn harts_and_links_can_be_set(rt: HostRuntime) -> Result<(), Fail> {
     assert!(rt; machine.links(alloc)?.is_empty());
     assert!(rt; machine.is_live(0));
     assert!(rt; !machine.is_live(1));
+    Ok(())
+}
+
+/// The 4 bytes at an address, read from the pages.
+fn number_at(memory: &PagedMem, at: u64) -> Result<Value, Access> {
+    memory.load(at, Width::W, &Same)
+}
+
+#[test]
+fn the_pages_of_a_machine_have_what_its_harts_stored(rt: HostRuntime) -> Result<(), Fail> {
+    let alloc = rt.alloc();
+    let image = image_of(alloc, HANDOVER)?;
+    let mut machine = Machine::start(alloc, &image, Vec::new(alloc))?;
+    assert_eq!(rt; number_at(machine.memory(), 0x11000), Ok(Value::plain(0)));
+    run(&mut machine, &image, "0*5 1*4")?;
+    assert_eq!(rt; number_at(machine.memory(), 0x11000), Ok(Value::plain(1)));
+    assert_eq!(rt; number_at(machine.memory(), 0), Err(Access::NoAccess));
     Ok(())
 }

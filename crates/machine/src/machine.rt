@@ -202,6 +202,13 @@ impl Machine {
         self.harts.set(h, regs, pc);
     }
 
+    /// The memory of the guest.
+    pub fn memory(&self) -> &GuestMem
+        ensures { result.now.contents ≡ self.now.memory }
+    {
+        &self.memory
+    }
+
     /// The addresses of all links in memory with their numbers, ascending.
     pub fn links(&self, alloc: Global) -> Result<Vec<(u64, u64)>, NoMemory>
         ensures { IfOk result (λ v. v.items ≡ links_of self.now.memory) }
