@@ -25,9 +25,6 @@ by_text : (words : List (List ℕ)) (disk : Disk) (i o : List ℕ) (read : Resul
 by_text words disk i o read d form input decides = by_form words disk (Ok (Assemble i o)) d form (subst (λ r. DecidesRead r o d) (sym input) decides)
 
 -- where there is no text
-pub decides-missing : (words : List (List ℕ)) (disk : Disk) (i o : List ℕ) → form_of words ≡ Ok (Assemble i o) → disk i ≡ None → Decides words disk (Err (ReadFault i))
-decides-missing words disk i o form none = by_text words disk i o (Err (ReadFault i)) (Err (ReadFault i)) form (ap (within i text_limit) none) refl
-
 -- A reason of a step is one of the whole.
 Reason-of_step : {usage usage' : Type 0} {fault fault' : List ℕ → Type 0} {is is' : Refusal → Type 0} (r : Refusal) → (usage → usage') → ((name : List ℕ) → fault name → fault' name) → ((r : Refusal) → is r → is' r) → Reason usage fault is r → Reason usage' fault' is' r
 Reason-of_step Usage u f i why = u why
@@ -39,31 +36,31 @@ Reason-of_step (Fault line kind) u f i why = i (Fault line kind) why
 -- the words were refused
 pub why_words : (words : List (List ℕ)) (told : Option Disk) (asked : Option (List (List ℕ))) (before now : Option ℕ) (r : Refusal) → Reason (form_of words ≡ Err Usage) (λ name. ⊥) (λ r. ⊥) r → Decided words told asked before now (Err r)
 why_words words told asked before now r why =
-    Reason-of_step {fault = λ name. ⊥} {fault' = λ name. InputFailed words name told asked before now} {is = λ r. ⊥} {is' = λ r. ForSome told (λ disk. Decides words disk (Err r))}
+    Reason-of_step {fault = λ name. ⊥} {fault' = λ name. InputFailed words name asked before now} {is = λ r. ⊥} {is' = λ r. ForSome told (λ disk. Decides words disk (Err r))}
     r (λ usage. usage) (λ name none. absurd none) (λ r none. absurd none) why
 
 -- the failure of the files at the first word
-input_failed : (words : List (List ℕ)) (told : Option Disk) (asked : Option (List (List ℕ))) (before now : Option ℕ) (i o name : List ℕ) → form_of words ≡ Ok (Assemble i o) → (name ≡ i) × TakeFailed name told asked before now → InputFailed words name told asked before now
-input_failed words told asked before now i o name form failed = record { output = o; first = form ∙ ap (λ x. Ok (Assemble x o)) (sym failed.0); failed = failed.1 }
+input_failed : (words : List (List ℕ)) (asked : Option (List (List ℕ))) (before now : Option ℕ) (i o name : List ℕ) → form_of words ≡ Ok (Assemble i o) → (name ≡ i) × TakeFailed name asked before now → InputFailed words name asked before now
+input_failed words asked before now i o name form failed = record { output = o; first = form ∙ ap (λ x. Ok (Assemble x o)) (sym failed.0); failed = failed.1 }
 
 -- the text was refused
-pub why_input : (words : List (List ℕ)) (told : Option Disk) (asked : Option (List (List ℕ))) (before now : Option ℕ) (i o : List ℕ) (r : Refusal) → form_of words ≡ Ok (Assemble i o) → Reason ⊥ (λ name. (name ≡ i) × TakeFailed name told asked before now) (λ r. ForSome told (λ disk. within i text_limit (disk i) ≡ Err r)) r → Decided words told asked before now (Err r)
+pub why_input : (words : List (List ℕ)) (told : Option Disk) (asked : Option (List (List ℕ))) (before now : Option ℕ) (i o : List ℕ) (r : Refusal) → form_of words ≡ Ok (Assemble i o) → Reason ⊥ (λ name. (name ≡ i) × TakeFailed name asked before now) (λ r. ForSome told (λ disk. within i text_limit (disk i) ≡ Err r)) r → Decided words told asked before now (Err r)
 why_input words told asked before now i o r form why =
-    Reason-of_step {fault = λ name. (name ≡ i) × TakeFailed name told asked before now} {fault' = λ name. InputFailed words name told asked before now} {is = λ r. ForSome told (λ disk. within i text_limit (disk i) ≡ Err r)} {is' = λ r. ForSome told (λ disk. Decides words disk (Err r))}
-    r absurd (λ name failed. input_failed words told asked before now i o name form failed) (λ r is. λ disk tells. by_text words disk i o (Err r) (Err r) form (is disk tells) refl) why
+    Reason-of_step {fault = λ name. (name ≡ i) × TakeFailed name asked before now} {fault' = λ name. InputFailed words name asked before now} {is = λ r. ForSome told (λ disk. within i text_limit (disk i) ≡ Err r)} {is' = λ r. ForSome told (λ disk. Decides words disk (Err r))}
+    r absurd (λ name failed. input_failed words asked before now i o name form failed) (λ r is. λ disk tells. by_text words disk i o (Err r) (Err r) form (is disk tells) refl) why
 
 -- what the text stands for
 pub why_text : (words : List (List ℕ)) (told : Option Disk) (asked : Option (List (List ℕ))) (before now : Option ℕ) (i o text : List ℕ) (d : Result NewFile Refusal) → form_of words ≡ Ok (Assemble i o) → ForSome told (λ disk. within i text_limit (disk i) ≡ Ok text) → Because ⊥ (λ name. ⊥) (Assembles text o) d → Decided words told asked before now d
 why_text words told asked before now i o text (Ok file) form input why = λ disk tells. by_text words disk i o (Ok text) (Ok file) form (input disk tells) why
 why_text words told asked before now i o text (Err r) form input why =
-    Reason-of_step {fault = λ name. ⊥} {fault' = λ name. InputFailed words name told asked before now} {is = λ r. Assembles text o (Err r)} {is' = λ r. ForSome told (λ disk. Decides words disk (Err r))}
+    Reason-of_step {fault = λ name. ⊥} {fault' = λ name. InputFailed words name asked before now} {is = λ r. Assembles text o (Err r)} {is' = λ r. ForSome told (λ disk. Decides words disk (Err r))}
     r absurd (λ name none. absurd none) (λ r is. λ disk tells. by_text words disk i o (Ok text) (Err r) form (input disk tells) is) why
 
 -- the guest that the words ask for
 pub why_guest : (words : List (List ℕ)) (told : Option Disk) (asked : Option (List (List ℕ))) (before now : Option ℕ) (n : ℕ) (o : List ℕ) (d : Result NewFile Refusal) → form_of words ≡ Ok (Generate n o) → Because ⊥ (λ name. ⊥) (Generates n o) d → Decided words told asked before now d
 why_guest words told asked before now n o (Ok file) form why = λ disk tells. by_form words disk (Ok (Generate n o)) (Ok file) form why
 why_guest words told asked before now n o (Err r) form why =
-    Reason-of_step {fault = λ name. ⊥} {fault' = λ name. InputFailed words name told asked before now} {is = λ r. Generates n o (Err r)} {is' = λ r. ForSome told (λ disk. Decides words disk (Err r))}
+    Reason-of_step {fault = λ name. ⊥} {fault' = λ name. InputFailed words name asked before now} {is = λ r. Generates n o (Err r)} {is' = λ r. ForSome told (λ disk. Decides words disk (Err r))}
     r absurd (λ name none. absurd none) (λ r none. absurd none) why
 
 -- ---- the names that were asked for

@@ -2,7 +2,7 @@
 use Rattle.std.proofs.Common.{◌≡◌, ◌≢◌, ◌⊎◌, inl, inr, ℕ, zero, suc, List, [], ◌∷◌, length, take, Option, Some, Result, Ok, Err, refl, ap, sym, subst, ◌∙◌, arith}
 use Rattle.std.specs.Prelude.{IsErr}
 use Rattle.std.proofs.lemmas.List.{take_all}
-use Rattle.oc_base.specs.Outside.{Disk, Rose, LacksFile, Misses, gained, GainedPart}
+use Rattle.oc_base.specs.Outside.{Disk, Rose, gained, GainedPart}
 use Rattle.guest_gen.specs.declared.answer.MadeWhat.{MadeWhat}
 use Rattle.guest_gen.specs.declared.answer.MadeWhat.TheVariants as made
 use Rattle.guest_gen.specs.declared.decision.NewFile.{NewFile}
@@ -14,7 +14,7 @@ use Rattle.guest_gen.specs.Answer.{what_of}
 use Rattle.guest_gen.specs.Decision.{Decides, read, named, read_of, names_of}
 use Rattle.guest_gen.specs.Words.{form_of}
 use Rattle.guest_gen.specs.Cause.{Decided, AskedFor, Asked, AskedBy, Held, AllWritten, WriteFailed, Ends, Settles, AsksFor, AllDone}
-use Rattle.guest_gen.proofs.Decided.{decides-usage, decides-missing, gained-none}
+use Rattle.guest_gen.proofs.Decided.{decides-usage, gained-none}
 
 -- All was written, or a device failed.
 abbrev Both : Result NewFile Refusal → (was now : Held) (put_fault out_fault err_fault : Type 0) → MadeWhat → Type 0
@@ -40,22 +40,10 @@ three d was now pf of ef what (inr wrote) = inr (both_of d was now pf of ef what
 asks : (words : List (List ℕ)) (disk : Disk) (d : Result NewFile Refusal) → Decides words disk d → AsksFor words disk (what_of d)
 asks words disk d decides = record { decision = d; decided = decides; answered = refl }
 
--- a text that couldn't be read is missing, unless the files failed
-missing : (words : List (List ℕ)) (told : Option Disk) (disk : Disk) (i o : List ℕ) → told ≡ Some disk → form_of words ≡ Ok (Assemble i o) → LacksFile told i → Decides words disk (Err (ReadFault i))
-missing words told disk i o tells form lacks = decides-missing words disk i o form (subst (λ t. LacksFile t i) tells lacks)
-
-read_settles : (words : List (List ℕ)) (told : Option Disk) (before now : Option ℕ) (disk : Disk) (i o : List ℕ) → told ≡ Some disk → form_of words ≡ Ok (Assemble i o) → Misses told i before now → Settles (Rose before now) (AsksFor words disk) made.ReadFault
-read_settles words told before now disk i o tells form (inl rose) = inr rose
-read_settles words told before now disk i o tells form (inr misses) = inl (asks words disk (Err (ReadFault i)) (missing words told disk i o tells form misses.1))
-
-read_whole : (words : List (List ℕ)) (told : Option Disk) (before now : Option ℕ) (disk : Disk) (i o : List ℕ) → told ≡ Some disk → form_of words ≡ Ok (Assemble i o) → Misses told i before now → (Rose before now → ⊥) → Decides words disk (Err (ReadFault i))
-read_whole words told before now disk i o tells form (inl rose) quiet = absurd (quiet rose)
-read_whole words told before now disk i o tells form (inr misses) quiet = missing words told disk i o tells form misses.1
-
 decided_settles : (words : List (List ℕ)) (told : Option Disk) (asked : Option (List (List ℕ))) (before now : Option ℕ) (disk : Disk) (d : Result NewFile Refusal) → told ≡ Some disk → Decided words told asked before now d → Settles (Rose before now) (AsksFor words disk) (what_of d)
 decided_settles words told asked before now disk (Ok file) tells why = asks words disk (Ok file) (why disk tells)
 decided_settles words told asked before now disk (Err Usage) tells why = asks words disk (Err Usage) (decides-usage words disk Usage why)
-decided_settles words told asked before now disk (Err (ReadFault name)) tells why = read_settles words told before now disk name why.output tells why.first why.failed.why
+decided_settles words told asked before now disk (Err (ReadFault name)) tells why = why.failed.rose
 decided_settles words told asked before now disk (Err NoMemory) tells why = tt
 decided_settles words told asked before now disk (Err (TooLong name)) tells why = asks words disk (Err (TooLong name)) (why disk tells)
 decided_settles words told asked before now disk (Err (Fault line kind)) tells why = asks words disk (Err (Fault line kind)) (why disk tells)
@@ -70,7 +58,7 @@ answer_settles words told asked before now disk d was now' pf of ef what tells w
 decided_whole : (words : List (List ℕ)) (told : Option Disk) (asked : Option (List (List ℕ))) (before now : Option ℕ) (disk : Disk) (d : Result NewFile Refusal) → told ≡ Some disk → Decided words told asked before now d → (Rose before now → ⊥) → what_of d ≢ made.NoMemory → Decides words disk d
 decided_whole words told asked before now disk (Ok file) tells why quiet memory = why disk tells
 decided_whole words told asked before now disk (Err Usage) tells why quiet memory = decides-usage words disk Usage why
-decided_whole words told asked before now disk (Err (ReadFault name)) tells why quiet memory = read_whole words told before now disk name why.output tells why.first why.failed.why quiet
+decided_whole words told asked before now disk (Err (ReadFault name)) tells why quiet memory = absurd (quiet why.failed.rose)
 decided_whole words told asked before now disk (Err NoMemory) tells why quiet memory = absurd (memory refl)
 decided_whole words told asked before now disk (Err (TooLong name)) tells why quiet memory = why disk tells
 decided_whole words told asked before now disk (Err (Fault line kind)) tells why quiet memory = why disk tells

@@ -26,16 +26,16 @@ abbrev pub Because : (usage : Type 0) (fault : List ℕ → Type 0) (is : Result
 Because usage fault is (Ok file) = is (Ok file)
 Because usage fault is (Err refusal) = Reason usage fault (λ r. is (Err r)) refusal
 
--- The text could not be read, or there is none: its name is the first of two words, and the last that the files were asked for.
-pub record InputFailed (words : List (List ℕ)) (name : List ℕ) (told : Option Disk) (asked : Option (List (List ℕ))) (before now : Option ℕ) : Type 0 where
+-- The text could not be read: its name is the first of two words, and the last that the files were asked for.
+pub record InputFailed (words : List (List ℕ)) (name : List ℕ) (asked : Option (List (List ℕ))) (before now : Option ℕ) : Type 0 where
   pub output : List ℕ
   pub first : form_of words ≡ Ok (Assemble name output)
-  pub failed : TakeFailed name told asked before now
+  pub failed : TakeFailed name asked before now
 
 -- This was decided: from the words, what the files tell, the names that they were asked for, and their count of faults before and now.
 abbrev pub Decided : (words : List (List ℕ)) (told : Option Disk) (asked : Option (List (List ℕ))) (before now : Option ℕ) → Result NewFile Refusal → Type 0
 Decided words told asked before now decision =
-    Because (form_of words ≡ Err Usage) (λ name. InputFailed words name told asked before now) (λ d. ForSome told (λ disk. Decides words disk d)) decision
+    Because (form_of words ≡ Err Usage) (λ name. InputFailed words name asked before now) (λ d. ForSome told (λ disk. Decides words disk d)) decision
 
 -- What the files were asked for when this was decided: for what is read, each name once, and there may be no room before that.
 abbrev pub AskedFor : (words : List (List ℕ)) (was now : Option (List (List ℕ))) → Result NewFile Refusal → Type 0
@@ -171,7 +171,7 @@ pub record Delivered (reason : Result NewFile Refusal → Type 0) (asked : Resul
 
 -- The answer is one that is asked for, but for a fault of a device and for want of memory.
 abbrev pub Settles : (take_fault : Type 0) (asked : MadeWhat → Type 0) → MadeWhat → Type 0
-Settles take_fault asked made.ReadFault = asked made.ReadFault ⊎ take_fault
+Settles take_fault asked made.ReadFault = take_fault
 Settles take_fault asked made.WriteFault = Unit {0}
 Settles take_fault asked made.NoMemory = Unit {0}
 Settles take_fault asked answer = asked answer

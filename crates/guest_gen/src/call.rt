@@ -32,7 +32,7 @@ fn fetch<F: Files>(alloc: Global, files: &mut F, name: &str) -> Result<Vec<u8>, 
     ensures bytes { IfOk result (λ bytes. ForSome (F.disk files.old) (λ disk. within name.now text_limit (disk name.now) ≡ Ok bytes.items)) }
     ensures short { IfOk result (λ bytes. length bytes.items ≤ text_limit) }
     ensures refusal { IfErr result (Reason ⊥
-        (λ given. (given ≡ name.now) × TakeFailed given (F.disk files.old) (F.asked files.new) (F.take_faults files.old) (F.take_faults files.new))
+        (λ given. (given ≡ name.now) × TakeFailed given (F.asked files.new) (F.take_faults files.old) (F.take_faults files.new))
         (λ refusal. ForSome (F.disk files.old) (λ disk. within name.now text_limit (disk name.now) ≡ Err refusal))) }
     ensures asked { Asks Refusal.NoMemory (F.asked files.old) (F.asked files.new) name.now result }
     ensures disk { F.disk files.new ≡ F.disk files.old }
@@ -225,7 +225,7 @@ pub fn make<F: Files, O: Sink, E: Sink>(
     // Each refusal has its cause, told or not.
     ensures usage { result.what ≡ MadeWhat.Usage → form_of (map string_bytes words.now) ≡ Err Refusal.Usage }
     ensures read_fault { result.what ≡ MadeWhat.ReadFault → (name : List ℕ)
-        × InputFailed (map string_bytes words.now) name (F.disk files.old) (F.asked files.new) (F.take_faults files.old) (F.take_faults files.new) }
+        × InputFailed (map string_bytes words.now) name (F.asked files.new) (F.take_faults files.old) (F.take_faults files.new) }
     ensures line { (fault : AsmFault) → result.what ≡ MadeWhat.Asm fault → fault ≢ AsmFault.NoMemory }
     ensures write_fault { result.what ≡ MadeWhat.WriteFault → Rose (F.put_faults files.old) (F.put_faults files.new)
         ⊎ (Rose (O.faults out.old) (O.faults out.new) ⊎ Rose (E.faults err.old) (E.faults err.new)) }

@@ -67,10 +67,6 @@ abbrev pub LacksFile : Option Disk → List ℕ → Type 0
 LacksFile None name = ⊥
 LacksFile (Some disk) name = disk name ≡ None
 
--- Why a file wasn't given: the files failed, or they didn't and tell that there is none of this name.
-abbrev pub Misses : Option Disk → List ℕ → (before now : Option ℕ) → Type 0
-Misses told name before now = Rose before now ⊎ ((now ≡ before) × LacksFile told name)
-
 -- The name came to the end of those that were asked for. Where there was no room for it, nothing did, and the error says so.
 abbrev pub Asks : {T E : Type 0} → E → Option (List (List ℕ)) → Option (List (List ℕ)) → List ℕ → Result T E → Type 0
 Asks no_room before now name result = (now ≡ gained before (name ∷ [])) ⊎ ((now ≡ before) × IsErrOf result no_room)
@@ -87,7 +83,7 @@ HasNow before now name bytes = ForSome before (λ _. (new : Disk) × (now ≡ So
 abbrev pub SameElsewhere : Option Disk → Option Disk → List ℕ → Type 0
 SameElsewhere before now name = ForSome before (λ old. (new : Disk) × (now ≡ Some new) × ((other : List ℕ) → (other ≡ name → ⊥) → new other ≡ old other))
 
--- The file of this name wasn't given, and the name was the last that the files were asked for.
-pub record TakeFailed (name : List ℕ) (told : Option Disk) (asked : Option (List (List ℕ))) (before now : Option ℕ) : Type 0 where
-  pub why : Misses told name before now
+-- The files failed, and this name was the last that they were asked for.
+pub record TakeFailed (name : List ℕ) (asked : Option (List (List ℕ))) (before now : Option ℕ) : Type 0 where
+  pub rose : Rose before now
   pub last : ForSome asked (λ names. (earlier : List (List ℕ)) × (names ≡ earlier ++ name ∷ []))

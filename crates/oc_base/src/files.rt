@@ -1,6 +1,6 @@
 ghost use Rattle.std.specs.Prelude.{◌≡◌, ℕ, ◌+◌, ◌<◌, ◌≤◌, List, [], ◌∷◌, length, take, Option, Some, IfOk, OnOk, OnErr, IsErrOf};
 ghost use Rattle.std.specs.Option.{ForSome};
-ghost use Rattle.oc_base.specs.Outside.{HasCause, Misses, Disk, gained, HasFile, IsLonger, SameElsewhere, HasNow, Asks, AsksOrFails};
+ghost use Rattle.oc_base.specs.Outside.{HasCause, HasCauseAt, Disk, gained, HasFile, IsLonger, SameElsewhere, HasNow, Asks, AsksOrFails};
 
 use crate::fault::{Failed, TakeFault};
 use std::alloc::Global;
@@ -13,7 +13,7 @@ pub trait Files {
     /// The names of all calls so far, oldest first, where the files tell.
     ghost asked: { Self → Option (List (List ℕ)) };
 
-    /// How often `take` has failed, unless it can't: it fails then only where there is no such file.
+    /// How often `take` has failed, unless it can't.
     ghost take_faults: { Self → Option ℕ };
 
     /// How often `put` has failed, unless it can't.
@@ -26,8 +26,7 @@ pub trait Files {
         ensures too_long { result ≡ Err TakeFault.TooLong → IsLonger (disk self.old) name.now limit }
         ensures kept { disk self.new ≡ disk self.old }
         ensures asked { Asks TakeFault.NoMemory (asked self.old) (asked self.new) name.now result }
-        ensures cause { result ≡ Err TakeFault.Failed → Misses (disk self.old) name.now (take_faults self.old) (take_faults self.new) }
-        ensures faults { (result ≡ Err TakeFault.Failed → ⊥) → take_faults self.new ≡ take_faults self.old }
+        ensures cause { HasCauseAt TakeFault.Failed (take_faults self.old) (take_faults self.new) result }
         ensures puts { put_faults self.new ≡ put_faults self.old };
 
     /// Gives a file these bytes, in place of any that it had.

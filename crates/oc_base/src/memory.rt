@@ -4,7 +4,7 @@
 ghost use Rattle.std.specs.Prelude.{◌≡◌, ◌⊎◌, ℕ, ◌+◌, ◌<◌, ◌≤◌, true, List, [], ◌∷◌, ◌++◌, length, take, drop, map, Option, Some, None, Result, is_err, string_bytes, IfOk, OnOk, OnErr, IsErr};
 ghost use Rattle.std.specs.Option.{ForSome, option_copied};
 ghost use Rattle.oc_base.specs.Listed.{called, counted, fails_next};
-ghost use Rattle.oc_base.specs.Outside.{HasCause, Misses, LacksFile, HasFile, IsLonger, HasNow, SameElsewhere, Asks, AsksOrFails, dropped, gained};
+ghost use Rattle.oc_base.specs.Outside.{HasCause, HasCauseAt, LacksFile, HasFile, IsLonger, HasNow, SameElsewhere, Asks, AsksOrFails, dropped, gained};
 ghost use Rattle.oc_base.specs.Table.{newest_in};
 
 use crate::calls::Calls;
@@ -147,7 +147,7 @@ impl Sink for NullSink {
 }
 
 /// Files in memory. `take` and `put` are counted together; of two files with one name the later counts.
-/// Where no number is listed, `take` fails only where there is no such file. `put` fails also when out of memory.
+/// `take` fails also where there is no such file, and `put` also when out of memory.
 #[derive(Drop)]
 pub struct MemFiles {
     /// The calls of `take` and `put`.
@@ -164,7 +164,7 @@ impl MemFiles {
         ensures disk { ⟦<MemFiles as Files>⟧.disk result ≡ Some (newest_in files.items) }
         ensures asked { ⟦<MemFiles as Files>⟧.asked result ≡ Some [] }
         ensures calls { result.calls ≡ (record { fails = fails; count = 0 }) }
-        ensures take_faults { ⟦<MemFiles as Files>⟧.take_faults result ≡ counted fails.items 0 }
+        ensures take_faults { ⟦<MemFiles as Files>⟧.take_faults result ≡ Some 0 }
         ensures put_faults { ⟦<MemFiles as Files>⟧.put_faults result ≡ Some 0 }
     {
         let alloc = *files.allocator();
@@ -236,7 +236,7 @@ impl Files for MemFiles {
 
     ghost asked = { λ s. Some (map string_bytes s.asked.items) };
 
-    ghost take_faults = { λ s. counted s.calls.fails.items s.take_faults };
+    ghost take_faults = { λ s. Some s.take_faults };
 
     ghost put_faults = { λ s. Some s.put_faults };
 
@@ -249,8 +249,7 @@ impl Files for MemFiles {
         ensures too_long { result ≡ Err TakeFault.TooLong → IsLonger (⟦<MemFiles as Files>⟧.disk self.old) name.now limit }
         ensures kept { ⟦<MemFiles as Files>⟧.disk self.new ≡ ⟦<MemFiles as Files>⟧.disk self.old }
         ensures asked { Asks TakeFault.NoMemory (⟦<MemFiles as Files>⟧.asked self.old) (⟦<MemFiles as Files>⟧.asked self.new) name.now result }
-        ensures cause { result ≡ Err TakeFault.Failed → Misses (⟦<MemFiles as Files>⟧.disk self.old) name.now (⟦<MemFiles as Files>⟧.take_faults self.old) (⟦<MemFiles as Files>⟧.take_faults self.new) }
-        ensures faults { (result ≡ Err TakeFault.Failed → ⊥) → ⟦<MemFiles as Files>⟧.take_faults self.new ≡ ⟦<MemFiles as Files>⟧.take_faults self.old }
+        ensures cause { HasCauseAt TakeFault.Failed (⟦<MemFiles as Files>⟧.take_faults self.old) (⟦<MemFiles as Files>⟧.take_faults self.new) result }
         ensures puts { ⟦<MemFiles as Files>⟧.put_faults self.new ≡ ⟦<MemFiles as Files>⟧.put_faults self.old }
     {
         let failing = self.calls.next_fails();
@@ -262,6 +261,7 @@ impl Files for MemFiles {
             return Err(TakeFault::Failed);
         }
         let Some(bytes) = newest(&self.files, name) else {
+            self.take_faults = self.take_faults.saturating_add(1);
             return Err(TakeFault::Failed);
         };
         if bytes.len() > limit {

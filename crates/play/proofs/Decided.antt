@@ -2,7 +2,7 @@
 use Rattle.std.proofs.Common.{◌≡◌, ◌≢◌, ◌⊎◌, inl, inr, ℕ, Bool, List, [], ◌∷◌, ◌++◌, Option, Some, None, Result, Ok, Err, ap, sym, subst, refl, ◌∙◌, append_assoc}
 use Rattle.std.specs.Bool.{⊤}
 use Rattle.std.specs.Option.{ForSome}
-use Rattle.oc_base.specs.Outside.{Disk, Rose, LacksFile, gained, Asks, GainedPart, LostPart, TakeFailed}
+use Rattle.oc_base.specs.Outside.{Disk, Rose, gained, Asks, GainedPart, LostPart, TakeFailed}
 use Rattle.oc_base.proofs.Told.{gained-gained}
 use Rattle.report.specs.declared.answer.Ended.{Ended}
 use Rattle.report.specs.declared.answer.Ended.TheVariants.{Ran, Usage, ReadFault, TooLong, Program, Script, WriteFault, NoMemory}
@@ -193,9 +193,7 @@ why_words words r form asked left = by_words (record { form = form; asked = aske
 
 -- what was refused is asked for, where files and input tell and no device failed
 file_refusal : (name : List ℕ) (limit : ℕ) (told : Option Disk) (disk : Disk) (before now : Option ℕ) (e : Ended) → told ≡ Some disk → (Rose before now → ⊥) → RefusesFile name limit told before now e → within name limit (disk name) ≡ Err e
-file_refusal name limit told disk before now (ReadFault given) tells quiet (is, inl rose) = absurd (quiet rose)
-file_refusal name limit told disk before now (ReadFault given) tells quiet (is, inr missing) =
-    ap (within name limit) (subst (λ t. LacksFile t name) tells missing.1) ∙ ap (λ x. Err (ReadFault x)) (sym is)
+file_refusal name limit told disk before now (ReadFault given) tells quiet (is, rose) = absurd (quiet rose)
 file_refusal name limit told disk before now (TooLong given) tells quiet why = why.1 disk tells ∙ ap (λ x. Err (TooLong x)) (sym why.0)
 file_refusal name limit told disk before now _ tells quiet why = absurd why
 
@@ -309,10 +307,10 @@ module _ (words : List (List ℕ)) (r : Read) where
   decided_ran _ outcome out_of_memory is = let e : NoMemory ≡ Ran outcome = is in cc
 
   -- a file that wasn't given is the last that was asked for
-  file_failed : (before : Option (List (List ℕ))) (first : List (List ℕ)) (file name : List ℕ) (limit : ℕ) → RefusesFile file limit r.disk r.takes_before r.takes_now (ReadFault name) → r.asked_now ≡ gained before (first ++ file ∷ []) → TakeFailed name r.disk r.asked_now r.takes_before r.takes_now
-  file_failed before first file name limit why asked = subst (λ n. TakeFailed n r.disk r.asked_now r.takes_before r.takes_now) (sym why.0) (record { why = why.1; last = last_asked before r.asked_now first file asked })
+  file_failed : (before : Option (List (List ℕ))) (first : List (List ℕ)) (file name : List ℕ) (limit : ℕ) → RefusesFile file limit r.disk r.takes_before r.takes_now (ReadFault name) → r.asked_now ≡ gained before (first ++ file ∷ []) → TakeFailed name r.asked_now r.takes_before r.takes_now
+  file_failed before first file name limit why asked = subst (λ n. TakeFailed n r.asked_now r.takes_before r.takes_now) (sym why.0) (record { rose = why.1; last = last_asked before r.asked_now first file asked })
 
-  pub decided_failed : (d : Result Delivery Ended) (name : List ℕ) → Decided words r d → ended_of d ≡ ReadFault name → TakeFailed name r.disk r.asked_now r.takes_before r.takes_now ⊎ InputFailed name r.reads_before r.reads_now
+  pub decided_failed : (d : Result Delivery Ended) (name : List ℕ) → Decided words r d → ended_of d ≡ ReadFault name → TakeFailed name r.asked_now r.takes_before r.takes_now ⊎ InputFailed name r.reads_before r.reads_now
   decided_failed _ name (by_words b) is = let e : Usage ≡ ReadFault name = is in cc
   decided_failed _ name (by_program e b) is = inl (file_failed _ [] b.said.program name program_limit (subst (RefusesFile _ _ _ _ _) is b.why) b.asked)
   decided_failed _ name (by_script e b) is = inl (file_failed _ (b.said.program ∷ []) b.said.script name script_limit (subst (RefusesFile _ _ _ _ _) is b.why) b.asked)

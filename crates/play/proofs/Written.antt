@@ -28,7 +28,7 @@ module _ (words : List (List ℕ)) (r : Read) (d : Result Delivery Ended) (writi
   written_run outcome (inr (inl failed)) is = let x : WriteFault ≡ Ran outcome = sym failed.ended ∙ is in cc
   written_run outcome (inr (inr failed)) is = let x : WriteFault ≡ Ran outcome = sym failed.ended ∙ is in cc
 
-  pub written_failed : (name : List ℕ) → Wrote writing o o' e e' of ef answer → answer ≡ ReadFault name → TakeFailed name r.disk r.asked_now r.takes_before r.takes_now ⊎ InputFailed name r.reads_before r.reads_now
+  pub written_failed : (name : List ℕ) → Wrote writing o o' e e' of ef answer → answer ≡ ReadFault name → TakeFailed name r.asked_now r.takes_before r.takes_now ⊎ InputFailed name r.reads_before r.reads_now
   written_failed name (inl written) is = decided_failed words r d name why (ended_as written ∙ is)
   written_failed name (inr (inl failed)) is = let x : WriteFault ≡ ReadFault name = sym failed.ended ∙ is in cc
   written_failed name (inr (inr failed)) is = let x : WriteFault ≡ ReadFault name = sym failed.ended ∙ is in cc

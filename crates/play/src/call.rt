@@ -113,7 +113,7 @@ pub fn play<F: Files, I: Source, O: Sink, E: Sink>(
     ensures usage_asks { result.ended ≡ Ended.Usage → F.asked files.new ≡ F.asked files.old }
     ensures usage_reads { result.ended ≡ Ended.Usage → I.left input.new ≡ I.left input.old }
     ensures read_fault { (name : List ℕ) → result.ended ≡ Ended.ReadFault name →
-        TakeFailed name (F.disk files.old) (F.asked files.new) (F.take_faults files.old) (F.take_faults files.new)
+        TakeFailed name (F.asked files.new) (F.take_faults files.old) (F.take_faults files.new)
         ⊎ InputFailed name (I.faults input.old) (I.faults input.new) }
     ensures write_fault { result.ended ≡ Ended.WriteFault →
         Rose (O.faults out.old) (O.faults out.new) ⊎ Rose (E.faults err.old) (E.faults err.new) }

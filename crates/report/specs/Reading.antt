@@ -1,7 +1,7 @@
 -- What is read before a run: whole files and the input, each within its limit.
 use Rattle.std.specs.Prelude.{◌≡◌, ℕ, List, length, codes, Option, Some, None, Result, Ok, Err, nat_lt, if◌then◌else◌}
 use Rattle.std.specs.Option.{ForSome}
-use Rattle.oc_base.specs.Outside.{Disk, Misses, Rose}
+use Rattle.oc_base.specs.Outside.{Disk, Rose}
 use Rattle.report.specs.declared.answer.Ended.{Ended}
 use Rattle.report.specs.declared.answer.Ended.TheVariants.{ReadFault, TooLong}
 
@@ -24,7 +24,7 @@ input_within all = within input_name input_limit (Some all)
 
 -- Why the file of this name isn't given: it could not be read, or it is longer than the limit.
 abbrev pub RefusesFile : (name : List ℕ) (limit : ℕ) (told : Option Disk) (before now : Option ℕ) → Ended → Type 0
-RefusesFile name limit told before now (ReadFault given) = (given ≡ name) × Misses told name before now
+RefusesFile name limit told before now (ReadFault given) = (given ≡ name) × Rose before now
 RefusesFile name limit told before now (TooLong given) = (given ≡ name) × ForSome told (λ disk. within name limit (disk name) ≡ Err (TooLong name))
 RefusesFile name limit told before now _ = ⊥
 
