@@ -1,5 +1,5 @@
 -- An instruction that isn't LR makes no reservation.
-use Rattle.std.proofs.Common.{◌≡◌, ℕ, Bool, true, false, cond, List, Option, Some, None, Result, Ok, Err, All, ap, refl, ◌∙◌}
+use Rattle.std.proofs.Common.{◌≡◌, ℕ, Bool, true, false, cond, List, Option, Some, None, Result, Ok, Err, ap, refl, ◌∙◌}
 use Rattle.std.specs.Prelude.{◌==◌, slice_set}
 use Rattle.std.proofs.lemmas.List.Elements.{All-set}
 use Rattle.rv_isa.specs.declared.instr.Instr.{Instr}

@@ -1,19 +1,21 @@
 -- An instruction leaves its hart live, so that nothing but a call can stall a run.
-use Rattle.std.proofs.Common.{◌≡◌, ℕ, zero, suc, ◌<◌, Bool, true, false, List, [], ◌∷◌, length, set, map, Option, Some, None, ap, refl, sym, subst, ◌∙◌, arith}
-use Rattle.std.specs.Prelude.{is_some, not, ◌&&◌, ◌==◌, slice_set}
+use Rattle.std.proofs.Common.{◌≡◌, ℕ, zero, suc, Bool, true, false, List, [], ◌∷◌, set, map, Option, Some, None, ap, refl, sym, ◌∙◌}
+use Rattle.std.specs.Prelude.{is_some, not, ◌&&◌, ◌==◌}
+use Rattle.rv_isa.specs.Decoded.{decoded}
+use Rattle.rv_isa.specs.declared.instr.Instr.{Instr}
 use Rattle.image.specs.Picture.{Picture}
 use Rattle.link_tags.specs.Values.{original}
 use Rattle.hart.specs.declared.hart.Hart.{Hart}
 use Rattle.hart.specs.declared.act.Acted.{Acted}
 use Rattle.hart.specs.declared.act.Acted.TheVariants as acted
 use Rattle.hart.specs.Harts.{jumped}
-use Rattle.hart.specs.Effects.{Effect, next, write, jump, call, trap, link_use, hart_after, answer_of}
+use Rattle.hart.specs.Effects.{Effect, next, write, jump, call, trap, link_use, hart_after, effect_of, answer_of}
 use Rattle.machine.specs.declared.outcome.Outcome.{Outcome}
-use Rattle.machine.specs.Harts.{is_live, hart_in, no_hart, written_by, unreserved, is_stalled}
+use Rattle.machine.specs.Harts.{is_live, hart_in, written_by, unreserved}
 use Rattle.machine.specs.States.{State}
-use Rattle.machine.specs.Steps.{settled, by_answer, jumped_unless, fault_of_jump, place_of, affected, after_effect, ended, with_hart, can_step}
+use Rattle.machine.specs.Steps.{settled, by_answer, jumped_unless, fault_of_jump, place_of, affected, after_effect, on_fetched, is_indirect, ended, with_hart, can_step}
 use Rattle.machine.specs.Sharing.{answered_by}
-use Rattle.machine.proofs.HartLists.{not_stalled, live_made}
+use Rattle.machine.proofs.HartLists.{not_stalled}
 
 and_false : (b : Bool) → (b && false) ≡ false
 and_false true = refl
@@ -90,3 +92,9 @@ unfolding after_effect
 effect_settled origin image h indirect e s can =
     let live = can_live (not (is_some s.outcome)) (is_live (hart_in s.harts h).status) can in
     answer_settled origin image h indirect (answer_of e) (affected origin h e s) (set_live s.harts h (hart_after e (hart_in s.harts h)) (keeps_status e (hart_in s.harts h)) live)
+
+-- the same from what was fetched
+pub instr_settled : (origin : ℕ → ℕ) (image : Picture) (h : ℕ) (fetched : Option ℕ) (word : ℕ) (i : Instr) (s : State) → can_step h s ≡ true → fetched ≡ Some word → decoded word ≡ Some i
+    → answered_by origin image h (is_indirect i) (answer_of (effect_of origin s.memory (hart_in s.harts h) i)) (affected origin h (effect_of origin s.memory (hart_in s.harts h) i) s) ≡ settled (on_fetched origin image h fetched s)
+unfolding on_fetched
+instr_settled origin image h fetched word i s can is reads = rw (is, reads) (effect_settled origin image h (is_indirect i) (effect_of origin s.memory (hart_in s.harts h) i) s can)
