@@ -1,11 +1,11 @@
 -- Laws of lists of harts.
-use Rattle.std.proofs.Common.{◌≡◌, ℕ, zero, suc, ◌+◌, ◌<◌, ◌≤◌, Bool, true, false, List, [], ◌∷◌, ◌++◌, map, take, drop, length, get_or, set, Option, Some, None, All, ap, sym, refl, ◌∙◌, arith, subst}
-use Rattle.std.specs.Prelude.{not, ◌||◌, ◌&&◌, ◌==◌, is_some}
-use Rattle.std.specs.List.{list_any, list_all}
-use Rattle.std.proofs.lemmas.List.{get_or_default, set-get_or, set_past}
-use Rattle.std.proofs.lemmas.List.Elements.{All-tail, All-set}
+use Rattle.std.proofs.Common.{◌≡◌, ℕ, zero, suc, ◌+◌, ◌<◌, Bool, true, false, List, [], ◌∷◌, ◌++◌, map, take, drop, length, get_or, set, Option, Some, None, ap, sym, refl, ◌∙◌, arith}
+use Rattle.std.specs.Prelude.{◌||◌, ◌==◌, is_some}
+use Rattle.std.specs.List.{list_any}
+use Rattle.std.proofs.lemmas.List.{set-get_or}
+use Rattle.std.proofs.lemmas.List.Elements.{All-tail}
 use Rattle.hart.specs.declared.hart.Hart.{Hart}
-use Rattle.machine.specs.Harts.{is_live, has_ended, no_hart, hart_in, lost, unreserved, written_by, is_stalled}
+use Rattle.machine.specs.Harts.{is_live, no_hart, hart_in, lost, unreserved, written_by, is_stalled}
 use Rattle.machine.specs.Sharing.{HoldsNone}
 
 -- ---- a live hart was made

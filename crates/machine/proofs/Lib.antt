@@ -5,4 +5,6 @@ pub mod LoadedStack
 pub mod Loading
 pub mod Made
 pub mod Slots
+pub mod Reserving
 pub mod Stays
+pub mod Still

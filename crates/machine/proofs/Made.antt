@@ -1,5 +1,5 @@
 -- The system counts the harts that its replies make.
-use Rattle.std.proofs.Common.{◌≡◌, ℕ, ◌+◌, ◌<◌, ◌≤◌, Bool, true, false, List, [], ◌∷◌, ◌++◌, map, length, Option, Some, None, Ok, ap, sym, subst, refl, ◌∙◌, arith}
+use Rattle.std.proofs.Common.{◌≡◌, ℕ, ◌+◌, ◌≤◌, Bool, true, false, List, [], ◌∷◌, ◌++◌, length, Option, Some, None, Ok, ap, sym, subst, refl, ◌∙◌, arith}
 use Rattle.std.specs.Prelude.{◌==◌, ◌*◌, ◌^◌, ◌&&◌, ◌||◌, not, nat_le, nat_lt, min, ◌%◌, slice_set, if◌then◌else◌}
 use Rattle.std.specs.List.{list_all}
 use Rattle.std.proofs.lemmas.List.{length-set, length-map, length-append}
@@ -13,12 +13,11 @@ use Rattle.guest_sys.specs.declared.effect.Effect.{Effect}
 use Rattle.guest_mem.specs.Memory.{Memory, number_of, bytes_from}
 use Rattle.guest_sys.specs.declared.service.Service.{Service}
 use Rattle.guest_sys.specs.declared.service.Service.TheVariants as call
-use Rattle.guest_sys.specs.declared.service.Operation.{Operation}
 use Rattle.guest_sys.specs.declared.service.Operation.TheVariants as futex
 use Rattle.guest_sys.specs.Limits.{output_limit, hart_limit}
 use Rattle.guest_sys.specs.Services.{operation_of, link_read}
 use Rattle.guest_sys.specs.State.{State, pages}
-use Rattle.guest_sys.specs.Calls.{Done, fails, added, read, write_parts, written, write, writev, exit, wait, wake, requeue, futex_call, brk, munmap, mmap, mprotect, clone, served, unless_link, asked, Ends, bytes_of_parts, all_readable, output, is_output, is_cleared, is_page, is_mapping, has, is_thread, is_word, tid_words}
+use Rattle.guest_sys.specs.Calls.{Done, fails, added, read, write_parts, write, writev, exit, wait, wake, requeue, futex_call, brk, munmap, mmap, mprotect, clone, served, unless_link, asked, Ends, bytes_of_parts, all_readable, output, is_output, is_cleared, is_page, is_mapping, has, is_thread, is_word, tid_words}
 use Rattle.machine.specs.Harts.{unreserved, is_in, woken, written_in, replied, awake, hart_in}
 use Rattle.machine.specs.Sharing.{HasRoom}
 

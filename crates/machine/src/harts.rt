@@ -7,7 +7,7 @@ ghost use Rattle.hart.specs.Effects.{effect_of, Acts, hart_after};
 ghost use Rattle.guest_sys.specs.Limits.{hart_limit};
 ghost use Rattle.machine.specs.Harts.{is_live, has_ended, hart_in, lost, unreserved, written_by, written_in, is_in, woken, awake, waiting_at, waiting_as, is_stalled, answered, stopped, child_of, with_thread, replied};
 ghost use Rattle.machine.specs.Steps.{arguments_of};
-ghost use Rattle.machine.specs.Sharing.{ActsIn, HasRoom, HoldsNone};
+ghost use Rattle.machine.specs.Sharing.{ActsIn, HasRoom, HoldsNone, reserves};
 
 use guest_mem::memory::GuestMem;
 use guest_sys::HART_LIMIT;
@@ -110,11 +110,10 @@ impl Harts {
         requires word { HasWord i.now }
         ensures { ActsIn (O.origin origins.now) (effect_of (O.origin origins.now) memory.old.contents (hart_in self.old h) i.now) h self.old self.new memory.old.contents memory.new.contents result }
     {
-        let acted = act(&mut self.list[h as usize], memory, origins, i);
-        if self.list[h as usize].reservation.is_some() {
+        if reserves(i) {
             self.reserved = true;
         }
-        acted
+        act(&mut self.list[h as usize], memory, origins, i)
     }
 
     /// Ends a jump of hart `h`, as `hart::finish_jump` does.
@@ -270,6 +269,14 @@ impl Harts {
         self.answer(h, u64::from(tid));
         self.list.push_reserved(child);
     }
+}
+
+/// Whether an instruction may make a reservation: LR alone does.
+#[inline(always)]
+fn reserves(i: &Instr) -> bool
+    ensures { result ≡ reserves i.now }
+{
+    matches!(*i, Instr::Lr { .. })
 }
 
 fn is_live(hart: &Hart) -> bool

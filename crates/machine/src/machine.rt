@@ -1,16 +1,16 @@
 //! The machine and its step.
 ghost use Rattle.std.specs.Prelude.{◌≡◌, ◌<◌, ◌&&◌, ℕ, true, length, replicate, OnOk, OnErr, IfOk, not, is_some};
 ghost use Rattle.rv_isa.specs.Instr.{HasWord};
-ghost use Rattle.hart.specs.Effects.{effect_of};
+ghost use Rattle.hart.specs.Effects.{effect_of, answer_of};
 ghost use Rattle.guest_mem.specs.Memory.{is_link_at};
 ghost use Rattle.guest_mem.specs.Access.{links_of, with_link};
 ghost use Rattle.guest_sys.specs.Calls.{output};
 ghost use Rattle.guest_sys.specs.State.{IsOrderly};
 ghost use Rattle.machine.specs.Harts.{is_live, hart_in, replied, woken, written_in};
-ghost use Rattle.machine.specs.Sharing.{HasRoom};
+ghost use Rattle.machine.specs.Sharing.{HasRoom, answered_by};
 ghost use Rattle.machine.specs.Start.{start_of};
 ghost use Rattle.machine.specs.Loaded.{IsLoaded};
-ghost use Rattle.machine.specs.Steps.{with_hart, is_indirect, fault_of_jump, call_of, called, end_by, by_answer, after_effect, on_fetched, settled, can_step, original_step, original_run};
+ghost use Rattle.machine.specs.Steps.{with_hart, is_indirect, fault_of_jump, call_of, called, end_by, by_answer, affected, on_fetched, settled, can_step, original_step, original_run};
 
 use crate::harts::{Harts, arguments_of};
 use crate::outcome::Outcome;
@@ -296,9 +296,9 @@ impl Machine {
         Ok(())
     }
 
-    /// One instruction of hart `h`. After want of memory all is as before.
+    /// One instruction of hart `h`: only a call can stall the run. After want of memory all is as before.
     #[inline(always)]
-    #[tactic(auto, unfolding(crate::specs::Steps::after_effect, crate::specs::Steps::by_answer))]
+    #[tactic(auto, unfolding(crate::specs::Sharing::answered_by, crate::specs::Steps::by_answer))]
     fn act<O: Origins>(
         &mut self,
         image: &Image,
@@ -308,7 +308,7 @@ impl Machine {
     ) -> Result<(), NoMemory>
         requires made { h < length self.old.harts }
         requires word { HasWord i.now }
-        ensures ok { OnOk result (self.new ≡ after_effect (O.origin origins.now) image.now h (is_indirect i.now) (effect_of (O.origin origins.now) self.old.memory (hart_in self.old.harts h) i.now) self.old) }
+        ensures ok { OnOk result (let e = effect_of (O.origin origins.now) self.old.memory (hart_in self.old.harts h) i.now in self.new ≡ answered_by (O.origin origins.now) image.now h (is_indirect i.now) (answer_of e) (affected (O.origin origins.now) h e self.old)) }
         ensures err { OnErr result (self.new ≡ self.old) }
     {
         match self.harts.act(h, &mut self.memory, origins, i) {
@@ -321,6 +321,7 @@ impl Machine {
                 let Ok(()) = self.call(origins, h) else {
                     return Err(NoMemory);
                 };
+                self.settle(h);
             }
             Acted::Trap { cause, value } => {
                 let pc = self.place(origins, h);
@@ -335,9 +336,9 @@ impl Machine {
         Ok(())
     }
 
-    /// What hart `h` does by the word that was fetched for it.
+    /// One step of live hart `h` on the word that was fetched for it.
     #[inline(always)]
-    #[tactic(auto, unfolding(crate::specs::Steps::on_fetched))]
+    #[tactic(auto, unfolding(crate::specs::Steps::on_fetched, crate::specs::Steps::settled))]
     fn obey<O: Origins>(
         &mut self,
         image: &Image,
@@ -345,8 +346,9 @@ impl Machine {
         h: u32,
         word: Option<u32>,
     ) -> Result<(), NoMemory>
-        requires { h < length self.old.harts }
-        ensures ok { OnOk result (self.new ≡ on_fetched (O.origin origins.now) image.now h word self.old) }
+        requires made { h < length self.old.harts }
+        requires live { can_step h self.old ≡ true }
+        ensures ok { OnOk result (self.new ≡ settled (on_fetched (O.origin origins.now) image.now h word self.old)) }
         ensures err { OnErr result (self.new ≡ self.old) }
     {
         let Some(word) = word else {
@@ -401,7 +403,6 @@ impl Machine {
         let Ok(()) = self.obey(image, origins, h, word) else {
             return Err(NoMemory);
         };
-        self.settle(h);
         Ok(self.outcome)
     }
 
