@@ -351,6 +351,10 @@ another symbol: 100 8 100000011 = 2 functions, 2 sites, 0 pairs, 0 slots
 the same place twice: 110 8 10000 = 2 functions, 1 sites, 0 pairs, 0 slots
 a word that is no jump: 78 4 13 = 2 functions, 1 sites, 0 pairs, 0 slots
 two names, of which one is shorter: c0 8 10010, c8 8 4 = 1 functions, 2 sites, 0 pairs, 0 slots
+relocations in two sections: 12c 4 4, 140 8 f8, 148 8 30, 150 4 2 = 2 functions, 2 sites, 0 pairs, 0 slots
+one in each of two sections: 12c 4 4, 140 8 110, 148 8 18, 150 4 2, 248 8 18 = 2 functions, 2 sites, 0 pairs, 0 slots
+one in one section, none in another: 12c 4 4, 140 8 110, 148 8 18, 150 4 2, 248 8 17 = 2 functions, 1 sites, 0 pairs, 0 slots
+the second of two in a section of its own too: 12c 4 4, 140 8 110, 148 8 18, 150 4 2 = 2 functions, 2 sites, 0 pairs, 0 slots
 ";
 
 #[test]
