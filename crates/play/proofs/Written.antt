@@ -1,5 +1,5 @@
 -- What the answer says of the decision that was written.
-use Rattle.std.proofs.Common.{◌≡◌, ◌≢◌, inl, inr, ◌⊎◌, ℕ, List, Option, Some, Result, Ok, Err, refl, ap, sym, subst, ◌∙◌}
+use Rattle.std.proofs.Common.{◌≡◌, ◌≢◌, inl, inr, ◌⊎◌, ℕ, List, Option, Some, Result, Err, ap, sym, subst, ◌∙◌}
 use Rattle.oc_base.specs.Outside.{Disk, Rose, TakeFailed}
 use Rattle.machine.specs.declared.outcome.Outcome.{Outcome}
 use Rattle.report.specs.declared.answer.Ended.{Ended}
