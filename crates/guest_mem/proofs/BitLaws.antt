@@ -3,8 +3,8 @@ use Rattle.std.proofs.Common.{◌≡◌, ◌≢◌, ℕ, zero, suc, ◌+◌, ◌
 use Rattle.std.specs.Int.{bit_at}
 use Rattle.std.proofs.lemmas.List.{get_or-replicate, length-replicate, get_or_past}
 use Rattle.std.proofs.lemmas.Nat.{and_mask, shr-shr, one_shl, pow_pos, mod-pow-add}
-use Rattle.std.proofs.lemmas.Nat.Bits.{bit_at_ones, bit_at_ones_above, bit_at_and, bit_at-zero, bit_at-lt, same_from_bits}
-use Rattle.std.proofs.lemmas.Bool.{cases_lt, cases_eq, eq-eqb, eqb-true, ne_eqb, lt-ltb, and_parts, and_from}
+use Rattle.std.proofs.lemmas.Nat.Bits.{bit_at_ones, bit_at-zero, bit_at-lt}
+use Rattle.std.proofs.lemmas.Bool.{cases_lt, cases_eq, eq-eqb, ne_eqb}
 use Rattle.guest_mem.specs.Bits.{bit_in, all_bits_in}
 
 pub changed_bit : (xs : List ℕ) (i j y : ℕ) (on : Bool) → i / 64 < length xs → nat_eq (bit_at y (i % 64)) 1 ≡ on → ((k : ℕ) → k < 64 → k ≢ i % 64 → bit_at y k ≡ bit_at (get_or xs (i / 64) 0) k) → bit_in (set xs (i / 64) y) j ≡ cond (nat_eq j i) on (bit_in xs j)

@@ -1,9 +1,9 @@
 -- A range of bytes changed page by page.
-use Rattle.std.proofs.Common.{◌≡◌, ℕ, ◌+◌, ◌-◌, ◌*◌, ◌/◌, ◌%◌, ◌<◌, ◌≤◌, min, Bool, true, false, cond, ◌&&◌, nat_eq, nat_le, nat_lt, List, length, set, refl, sym, ap, subst, ◌∙◌, inl, inr, ◌⊎◌, arith}
-use Rattle.std.proofs.lemmas.Bool.{cases_lt, cases_eq, eq-eqb, ne_eqb, both_ways}
+use Rattle.std.proofs.Common.{◌≡◌, ℕ, ◌+◌, ◌-◌, ◌*◌, ◌/◌, ◌%◌, ◌<◌, ◌≤◌, min, Bool, true, false, cond, ◌&&◌, List, refl, sym, ap, subst, ◌∙◌, inl, inr, arith}
+use Rattle.std.proofs.lemmas.Bool.{cases_lt}
 use Rattle.std.proofs.lemmas.Bool.Decides.{nat_tests}
-use Rattle.finite.specs.Maps.{contains, fill, mark, within}
-use Rattle.finite.proofs.MapLaws.{at-fill, contains-mark, in_range, out_of_range, same_by_words}
+use Rattle.finite.specs.Maps.{contains, within}
+use Rattle.finite.proofs.MapLaws.{at-fill, contains-mark, out_of_range, same_by_words}
 use Rattle.guest_mem.specs.declared.words.Right.{Right}
 use Rattle.guest_mem.specs.declared.words.Right.TheVariants.{Read, Write}
 use Rattle.guest_mem.specs.declared.page.Rights.{Rights}
@@ -11,10 +11,10 @@ use Rattle.guest_mem.specs.declared.page.Page.{Page}
 use Rattle.guest_mem.specs.Memory.{Memory, byte_at, with_right}
 use Rattle.guest_mem.specs.Access.{touched, cleared, with_rights}
 use Rattle.guest_mem.specs.Pages.{right_of, page_byte, page_link, page_right, IsPageChanged}
-use Rattle.guest_mem.specs.Paged.{page_of, paged_memory, part_from, part_to, part_length, changed}
+use Rattle.guest_mem.specs.Paged.{page_of, paged_memory, part_from, part_length, changed}
 use Rattle.guest_mem.proofs.Reading.{same_memory}
 use Rattle.guest_mem.proofs.PutLaws.{done, ends, mark_none, clear_nothing}
-use Rattle.guest_mem.proofs.PagedLaws.{paged_byte, paged_link, paged_right, set_page}
+use Rattle.guest_mem.proofs.PagedLaws.{paged_byte, paged_link, paged_right}
 
 not_both : (b : Bool) → (b && false) ≡ false
 not_both true = refl

@@ -1,5 +1,5 @@
 -- What the entry of a page stands for.
-use Rattle.std.proofs.Common.{◌≡◌, ℕ, zero, suc, ◌+◌, ◌-◌, ◌*◌, ◌/◌, ◌<◌, ◌≤◌, Bool, true, false, cond, ◌&&◌, nat_eq, List, length, get_or, refl, sym, ap, subst, ◌∙◌, inl, inr, arith}
+use Rattle.std.proofs.Common.{◌≡◌, ℕ, zero, suc, ◌+◌, ◌-◌, ◌*◌, ◌/◌, ◌<◌, ◌≤◌, Bool, true, false, cond, ◌&&◌, nat_eq, List, get_or, refl, sym, ap, subst, ◌∙◌, inl, inr, arith}
 use Rattle.std.specs.Prelude.{Box}
 use Rattle.std.proofs.Common.{Global}
 use Rattle.guest_mem.specs.declared.words.Right.{Right}
@@ -18,8 +18,7 @@ use Rattle.link_tags.specs.Values.{is_link}
 use Rattle.link_tags.specs.declared.value.Tag.TheVariants.{Plain}
 use Rattle.guest_mem.specs.declared.words.Word.{Word}
 use Rattle.guest_mem.specs.Memory.{number_of, bytes_of}
-use Rattle.guest_mem.specs.Access.{touched}
-use Rattle.guest_mem.specs.Pages.{right_of, full_byte, full_right, page_byte, page_link, page_right, page_rights, page_number, is_full, full_links, page_links, IsFullChanged, IsPageChanged, IsPageWith, IsSamePage}
+use Rattle.guest_mem.specs.Pages.{right_of, full_byte, full_right, page_byte, page_link, page_right, page_rights, page_number, is_full, full_links, page_links, IsFullChanged, IsPageWith, IsSamePage}
 use Rattle.guest_mem.proofs.Reading.{same_number}
 use Rattle.guest_mem.proofs.WordLinks.{links_append, no_links, one_link, not_link, none_yet}
 use Rattle.guest_mem.proofs.PutLaws.{done, in_done, same_done, not_yet, none_done, ends, inside}
@@ -239,4 +238,3 @@ page_number_is (page.Full f) k xs h = same_number (bytes_of (get_or f.value.word
 
 pub rows_none : (f : Full) (first : ℕ) (xs : List (ℕ × ℕ)) → xs ≡ xs ++ full_links f first first 0
 rows_none f first xs = sym (ap (λ (zs : List (ℕ × ℕ)). xs ++ zs) (none_yet (λ v. bit_in f.links (v - first)) (λ v. number_in f (v - first)) first) ∙ append-nil xs)
-

@@ -1,17 +1,16 @@
 -- What a `PagedMem` stands for, read at each place.
 use Rattle.std.proofs.Common.{◌≡◌, ℕ, zero, suc, ◌+◌, ◌-◌, ◌*◌, ◌/◌, ◌%◌, ◌<◌, ◌≤◌, Bool, true, false, cond, ◌&&◌, nat_eq, List, [], ◌++◌, length, get_or, set, replicate, refl, sym, ap, subst, ◌∙◌, inl, inr, ◌⊎◌, arith, get_or-set_same, get_or-set_other}
 use Rattle.std.proofs.lemmas.List.{get_or-replicate, length-replicate, get_or_past}
-use Rattle.std.proofs.lemmas.Bool.{cases_lt, cases_eq, eq-eqb, ne_eqb, both_ways, eqb-true, true≢false}
-use Rattle.finite.specs.Maps.{Places, contains, contains_all, zeros, nowhere, fill, mark, within}
+use Rattle.std.proofs.lemmas.Bool.{cases_lt, cases_eq, eq-eqb, ne_eqb, both_ways, true≢false}
+use Rattle.finite.specs.Maps.{contains, contains_all, zeros, nowhere, within}
 use Rattle.finite.proofs.MapLaws.{at-fill, at-zeros, contains-mark, contains-nowhere, in_range, same_by_words, same_places, fill_word, mark_at}
 use Rattle.link_tags.specs.Values.{is_link}
 use Rattle.guest_mem.specs.declared.words.Word.{Word}
 use Rattle.guest_mem.specs.declared.words.Right.{Right}
 use Rattle.guest_mem.specs.declared.words.Right.TheVariants.{Read, Write}
-use Rattle.guest_mem.specs.declared.page.Rights.{Rights}
 use Rattle.guest_mem.specs.declared.page.Page.{Page}
 use Rattle.guest_mem.specs.declared.page.Page.TheVariants as page
-use Rattle.guest_mem.specs.Memory.{Memory, blank, no_word, byte_at, bytes_from, number_at, word_of, with_word, with_right}
+use Rattle.guest_mem.specs.Memory.{blank, no_word, byte_at, bytes_from, number_at, word_of, with_word, with_right}
 use Rattle.guest_mem.specs.Access.{IsBelowEnd, links_of}
 use Rattle.guest_mem.specs.Pages.{page_byte, page_link, page_right, page_rights, page_number, page_links, is_full, IsPageWith, IsSamePage}
 use Rattle.guest_mem.specs.Paged.{no_page, page_of, paged_memory, paged_room, paged_links}

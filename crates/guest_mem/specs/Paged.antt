@@ -1,5 +1,5 @@
 -- What a `PagedMem` stands for: the page i has the bytes from 4096 * i and the words from 512 * i.
-use Rattle.std.specs.Prelude.{◌≡◌, ℕ, ◌+◌, ◌*◌, ◌/◌, ◌%◌, ◌-◌, ◌<◌, ◌≤◌, min, Bool, true, false, List, get_or, length}
+use Rattle.std.specs.Prelude.{◌≡◌, ℕ, ◌*◌, ◌/◌, ◌%◌, ◌-◌, ◌<◌, ◌≤◌, min, Bool, true, false, List, get_or, length}
 use Rattle.finite.specs.Maps.{Places, zeros, nowhere, fill, mark}
 use Rattle.guest_mem.specs.declared.words.Right.TheVariants.{Read, Write}
 use Rattle.guest_mem.specs.declared.page.Rights.{Rights}

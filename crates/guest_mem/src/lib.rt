@@ -1,7 +1,8 @@
 //! Tagged memory of a guest: bytes, one tag for each aligned word of 8 bytes, and rights for each byte.
 //!
-//! `GuestStore` is what the crates above see, and `specs/Access.antt` says what its calls find and leave. `FlatMem`
-//! meets it by ordered maps. Loads, stores, transfers and clearing are written once, over the few calls of `WordStore`.
+//! `GuestStore` is what the crates above see, and `specs/Access.antt` says what its calls find and leave. `PagedMem`,
+//! which is the `GuestMem` of a machine, meets it by a table of pages, and `FlatMem` by ordered maps. Loads, stores and
+//! transfers are written once, over the few calls of `WordStore`.
 #![tactic(auto)]
 
 mod access;

@@ -183,12 +183,7 @@ impl Full {
     }
 
     /// Adds the links among the 64 words of a row.
-    fn add_row(
-        &self,
-        found: &mut Vec<(u64, u64)>,
-        first: u64,
-        row: usize,
-    ) -> Result<(), NoMemory>
+    fn add_row(&self, found: &mut Vec<(u64, u64)>, first: u64, row: usize) -> Result<(), NoMemory>
         requires first { first + 512 ≤ 0x0200_0000 }
         requires row { row < 8 }
         ensures { OnOk result (found.new.items ≡ found.old.items ++ full_links self.now first (first + 64 * row) 64) }
@@ -332,7 +327,13 @@ impl Page {
     }
 
     /// Sees to it that `change` of the bytes from `lo` up to `hi` takes no memory, and changes nothing else.
-    pub fn make_ready(&mut self, alloc: Global, lo: usize, hi: usize, rights: Rights) -> Result<(), NoMemory>
+    pub fn make_ready(
+        &mut self,
+        alloc: Global,
+        lo: usize,
+        hi: usize,
+        rights: Rights,
+    ) -> Result<(), NoMemory>
         ensures same { IsSamePage self.old self.new }
         ensures ready { OnOk result (IsReady self.new lo (hi - lo) rights) }
         ensures err { OnErr result (self.new ≡ self.old) }

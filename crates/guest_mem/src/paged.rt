@@ -135,12 +135,7 @@ fn change(pages: &mut [Page], range: Range, rights: Rights, cleared: bool)
 }
 
 /// Makes the pages from `first` up to `end` full, and changes nothing else.
-fn make_full(
-    alloc: Global,
-    pages: &mut [Page],
-    first: usize,
-    end: usize,
-) -> Result<(), NoMemory>
+fn make_full(alloc: Global, pages: &mut [Page], first: usize, end: usize) -> Result<(), NoMemory>
     requires { end ≤ length pages.old }
     ensures same { paged_memory pages.new ≡ paged_memory pages.old }
     ensures made { OnOk result ((w : ℕ) → 512 * first ≤ w → w < 512 * end → contains (paged_room pages.new) w ≡ true) }
@@ -196,8 +191,7 @@ impl WordStore for PagedMem {
 
     #[inline]
     fn has_right(&self, right: Right, at: u64) -> bool {
-        at < PAGES * PAGE
-            && self.pages[(at / PAGE) as usize].has_right(right, (at % PAGE) as usize)
+        at < PAGES * PAGE && self.pages[(at / PAGE) as usize].has_right(right, (at % PAGE) as usize)
     }
 
     #[inline]

@@ -323,7 +323,13 @@ fn links_are_found_beside_pages_and_parts_that_are_unmapped(rt: HostRuntime) -> 
         to: 0x3ff8,
     };
     mem.unmap(gone)?;
-    let left = [(0, 0), (0x1ff8, 0x1ff8), (0x3ff8, 0x3ff8), (0x4000, 0x4000), (0x0bff_fff8, 0x0bff_fff8)];
+    let left = [
+        (0, 0),
+        (0x1ff8, 0x1ff8),
+        (0x3ff8, 0x3ff8),
+        (0x4000, 0x4000),
+        (0x0bff_fff8, 0x0bff_fff8),
+    ];
     assert_eq!(rt; mem.links(rt.alloc())?.as_slice(), left.as_slice());
     assert_eq!(rt; mem.load(0x2000, Width::D, &Same), Err(Access::NoAccess));
     mem.unmap(most)?;

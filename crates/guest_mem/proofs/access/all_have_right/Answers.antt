@@ -1,4 +1,4 @@
-use Rattle.std.proofs.Common.{◌≡◌, ◌∙◌, ◌+◌, ◌-◌, ◌*◌, ◌≤◌, ℕ, min, true, sym, ap, arith, rules}
+use Rattle.std.proofs.Common.{◌≡◌, ◌∙◌, ◌+◌, ◌-◌, ◌*◌, ℕ, min, sym, ap, arith, rules}
 use Rattle.finite.specs.Maps.{contains_all}
 use Rattle.finite.proofs.MapLaws.{all-none}
 use Rattle.guest_mem.specs.Memory.{with_right}

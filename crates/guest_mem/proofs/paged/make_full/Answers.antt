@@ -2,7 +2,7 @@ use Rattle.std.proofs.Common.{◌≡◌, true, ◌∙◌, ◌/◌, sym, subst, a
 use Rattle.std.proofs.lemmas.List.{get_or_default}
 use Rattle.guest_mem.specs.declared.page.Page.{Page}
 use Rattle.guest_mem.specs.Pages.{IsSamePage, is_full}
-use Rattle.guest_mem.specs.Paged.{no_page, page_of}
+use Rattle.guest_mem.specs.Paged.{no_page}
 use Rattle.guest_mem.proofs.PagedLaws.{each_same, same_paged, paged_full, paged_kept}
 use Rattle.guest_mem.proofs.paged.make_full.Goals as goal
 

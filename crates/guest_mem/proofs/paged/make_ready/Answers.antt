@@ -1,9 +1,9 @@
-use Rattle.std.proofs.Common.{◌≡◌, ◌∙◌, ◌+◌, ◌-◌, ◌/◌, ◌<◌, ◌≤◌, ℕ, length, subst, arith}
+use Rattle.std.proofs.Common.{◌∙◌, ◌+◌, ◌-◌, ◌/◌, ◌<◌, ◌≤◌, length, subst, arith}
 use Rattle.std.proofs.lemmas.List.{get_or_default, length-set}
 use Rattle.oc_base.specs.declared.range.Range.{Range}
 use Rattle.guest_mem.specs.declared.page.Page.{Page}
 use Rattle.guest_mem.specs.Pages.{IsSamePage, IsReady}
-use Rattle.guest_mem.specs.Paged.{no_page, page_of, part_from, part_length}
+use Rattle.guest_mem.specs.Paged.{no_page, part_from, part_length}
 use Rattle.guest_mem.proofs.PagedLaws.{each_set, each_same, same_paged}
 use Rattle.guest_mem.proofs.paged.make_ready.Goals as goal
 

@@ -1,4 +1,4 @@
-use Rattle.std.proofs.Common.{◌≡◌, ◌∙◌, ◌*◌, ◌+◌, List, ℕ, sym, ap, arith}
+use Rattle.std.proofs.Common.{◌∙◌, ◌*◌, sym, ap, arith}
 use Rattle.guest_mem.specs.Memory.{number_of}
 use Rattle.guest_mem.proofs.PageLaws.{row_none, row_more, row_skip}
 use Rattle.guest_mem.proofs.page.Full.add_row.Goals as goal

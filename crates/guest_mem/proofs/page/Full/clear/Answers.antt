@@ -1,6 +1,6 @@
-use Rattle.std.proofs.Common.{◌≡◌, ◌∙◌, ◌-◌, ◌+◌, ◌*◌, ◌/◌, ℕ, cond, get_or, sym, ap, subst, refl, arith}
+use Rattle.std.proofs.Common.{◌∙◌, ◌-◌, ◌+◌, ◌*◌, cond, get_or, ap, arith}
 use Rattle.finite.specs.Maps.{within}
-use Rattle.guest_mem.proofs.PageLaws.{clears_none, clears_more, clears_all}
+use Rattle.guest_mem.proofs.PageLaws.{clears_more}
 use Rattle.guest_mem.proofs.page.Full.clear.Goals as goal
 
 pub loop-k-preserved : goal.loop-k-preserved

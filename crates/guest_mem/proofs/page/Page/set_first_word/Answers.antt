@@ -1,4 +1,4 @@
-use Rattle.std.proofs.Common.{◌≡◌, ◌∙◌, ℕ, cond, nat_eq, get_or, sym, ap, subst, refl}
+use Rattle.std.proofs.Common.{◌≡◌, ◌∙◌, cond, nat_eq, get_or, ap}
 use Rattle.link_tags.specs.Values.{is_link}
 use Rattle.guest_mem.specs.declared.page.Full.{Full}
 use Rattle.guest_mem.specs.Bits.{bit_in}

@@ -5,7 +5,7 @@ use Rattle.finite.specs.Maps.{contains}
 use Rattle.guest_mem.specs.Store.{Store}
 use Rattle.guest_mem.specs.Memory.{word_of}
 use Rattle.guest_mem.specs.Pages.{is_full}
-use Rattle.guest_mem.specs.Paged.{no_page, page_of, paged_memory, paged_room}
+use Rattle.guest_mem.specs.Paged.{no_page, page_of, paged_room}
 use Rattle.guest_mem.proofs.Laws.{not_true}
 use Rattle.guest_mem.proofs.PagedLaws.{paged_full, paged_link, paged_bare, paged_absent, linked_page, room_below, links_below}
 use Rattle.guest_mem.proofs.paged.PagedMemWordStore.has_room.Goals as goal
