@@ -2,13 +2,15 @@
 
 use std::alloc::{AllocError, Global};
 
-/// What each shows: calls `work` twice, which counts down, and exits with the low part of an AUIPC's value; calls itself, with its
-/// return addresses on the stack; has branches and jumps to their own blocks, and to themselves; jumps with and without a link, in
-/// the function and out of it; has a function whose one word is zero; has functions with a fault each, and a second one behind it;
-/// has two functions side by side; calls `leaf` by an AUIPC and a JALR; branches over one block; ends in a branch to its start;
-/// branches over so many words; calls in the last word of its text; ends in a return; has two calls of one function, of which the
-/// second is far away; stores a link, overwrites one byte of it and computes on the word; adds a link; exits with a link; jumps past
-/// a link; jumps to the second word of a far call; jumps to the region; and then what guests do with the system.
+/// - `countdown` calls `work` twice, which counts down, and exits with the low part of an AUIPC's value.
+/// - `recursion` calls itself, with its return addresses on the stack.
+/// - `loops` branches and jumps to blocks of its own, and to themselves; `jumps` jumps with and without a link, in the function and out
+///   of it; `fork` branches over one block, `over N` over N words; `last falls` ends in a branch.
+/// - `zero word` has a function whose one word is zero; `faults` has functions with a fault each, and a second one behind it.
+/// - `far call` calls by an AUIPC and a JALR; `last call` calls in the last word of its text; `apart` has two calls of one function, of
+///   which the second is far away.
+/// - `stored link` overwrites one byte of a link and computes on the word; `to second` jumps to the second word of a far call.
+/// - `headers` exits with what stands for its program headers on the stack.
 const GUESTS: &str = "\
 countdown: .func main; jal x1,work; jal x1,work; addi x17,x0,93; ecall; .end/.func work; addi x5,x0,2; top: addi x5,x5,-1; bne x5,x0,top; auipc x6,0; andi x10,x6,63; ret; .end
 recursion: .func main; addi x10,x0,3; jal x1,rec; addi x17,x0,93; ecall; .end/.func rec; beq x10,x0,done; addi x2,x2,-16; sd x1,0(x2); addi x10,x10,-1; jal x1,rec; ld x1,0(x2); addi x2,x2,16; addi x10,x10,2/done: ret; .end

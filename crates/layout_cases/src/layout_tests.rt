@@ -55,14 +55,18 @@ fn layout_text(alloc: Global, layout: &Layout) -> Result<String, AllocError> {
     Ok(text)
 }
 
+fn unreadable_text(alloc: Global, func: u32, why: Unreadable) -> Result<String, AllocError> {
+    match why {
+        Unreadable::Undecodable(at) => format!(in alloc; ", unreadable {func} undecodable {at:x}"),
+        _ => String::from_str(alloc, ", unreadable"),
+    }
+}
+
 fn fault_text(alloc: Global, fault: EmitFault) -> Result<String, AllocError> {
     match fault {
         EmitFault::BranchReach { at, target } => format!(in alloc; ", reach {at:x} {target:x}"),
-        EmitFault::Unreadable {
-            func,
-            why: Unreadable::Undecodable(a),
-        } => { format!(in alloc; ", unreadable {func} undecodable {a:x}") }
-        _ => String::from_str(alloc, ", another fault"),
+        EmitFault::Unreadable { func, why } => unreadable_text(alloc, func, why),
+        EmitFault::NoMemory => String::from_str(alloc, ", out of memory"),
     }
 }
 

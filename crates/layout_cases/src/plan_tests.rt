@@ -5,23 +5,28 @@ use cases::images::image_of;
 use cases::orders::{parts_of, plan_of, plan_text};
 use cases::rows::split;
 use plans::plan::{Plan, PlanFault};
-use std::alloc::Global;
+use std::alloc::{AllocError, Global};
 use std::test::Fail;
+
+fn fault_text(alloc: Global, fault: PlanFault) -> Result<String, AllocError> {
+    match fault {
+        PlanFault::NoFunction => String::from_str(alloc, "no function"),
+        PlanFault::NotAPlan => String::from_str(alloc, "not a plan"),
+        PlanFault::NoMemory => String::from_str(alloc, "out of memory"),
+    }
+}
 
 /// What becomes of a plan, with the number of its parts.
 fn given_text(alloc: Global, guest: &str, text: &str) -> Result<String, Fail> {
     let image = image_of(alloc, guest)?;
     let parts = parts_of(alloc, text)?;
-    let text = match Plan::given(alloc, &image, &parts) {
+    match Plan::given(alloc, &image, &parts) {
         Ok(plan) => {
             let n = plan.parts().len();
-            format!(in alloc; "a plan of {n}")
+            Ok(format!(in alloc; "a plan of {n}")?)
         }
-        Err(PlanFault::NoFunction) => String::from_str(alloc, "no function"),
-        Err(PlanFault::NotAPlan) => String::from_str(alloc, "not a plan"),
-        Err(PlanFault::NoMemory) => String::from_str(alloc, "out of memory"),
-    };
-    Ok(text?)
+        Err(fault) => Ok(fault_text(alloc, fault)?),
+    }
 }
 
 /// The first row with another answer than is wanted, and that answer.
