@@ -26,7 +26,10 @@ pub(crate) fn push_text(out: &mut Vec<u8>, words: &[u32]) -> Result<(), NoMemory
 }
 
 #[tactic(auto, using(crate::proofs::OneMore::flat_more))]
-pub(crate) fn push_program_headers(out: &mut Vec<u8>, headers: &[ProgramHeader]) -> Result<(), NoMemory>
+pub(crate) fn push_program_headers(
+    out: &mut Vec<u8>,
+    headers: &[ProgramHeader],
+) -> Result<(), NoMemory>
     ensures { OnOk result (out.new.items ≡ out.old.items ++ flat_map program_header headers.now) }
 {
     for h in headers {
@@ -66,7 +69,11 @@ fn is_of(f: Fixup, slots: bool) -> bool
 
 /// Adds the relocations of text, or those of slots.
 #[tactic(auto, using(finite::proofs::Filtered::flat_map_filter_more))]
-pub(crate) fn push_relocations(out: &mut Vec<u8>, fixups: &[Fixup], slots: bool) -> Result<(), NoMemory>
+pub(crate) fn push_relocations(
+    out: &mut Vec<u8>,
+    fixups: &[Fixup],
+    slots: bool,
+) -> Result<(), NoMemory>
     requires { All (λ f. f.func < 2 ^ 31) fixups.now }
     ensures bytes { OnOk result (out.new.items ≡ out.old.items ++ flat_map relocation (filter (is_of slots) fixups.now)) }
     ensures range { OnOk result (All IsFixupInRange fixups.now) }

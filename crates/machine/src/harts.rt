@@ -105,7 +105,13 @@ impl Harts {
 
     /// Does an instruction of hart `h`, but for what only the machine can.
     #[inline(always)]
-    pub fn act<O: Origins>(&mut self, h: u32, memory: &mut GuestMem, origins: &O, i: &Instr) -> Acted
+    pub fn act<O: Origins>(
+        &mut self,
+        h: u32,
+        memory: &mut GuestMem,
+        origins: &O,
+        i: &Instr,
+    ) -> Acted
         requires made { h < length self.old }
         requires word { HasWord i.now }
         ensures { ActsIn (O.origin origins.now) (effect_of (O.origin origins.now) memory.old.contents (hart_in self.old h) i.now) h self.old self.new memory.old.contents memory.new.contents result }

@@ -41,7 +41,12 @@ impl Names {
     }
 
     /// Adds a name, unless it is there.
-    pub(crate) fn add(&mut self, alloc: Global, name: &[u8], meaning: Meaning) -> Result<(), NoMemory>
+    pub(crate) fn add(
+        &mut self,
+        alloc: Global,
+        name: &[u8],
+        meaning: Meaning,
+    ) -> Result<(), NoMemory>
         ensures { OnOk result (self.new ≡ add self.old name.now meaning) }
     {
         match self.get(name) {
