@@ -7,6 +7,7 @@ pub mod CodeFacts
 pub mod EffectPairs
 pub mod Fair
 pub mod Forward
+pub mod GivingUp
 pub mod GoingOn
 pub mod HartLists
 pub mod ImageFacts

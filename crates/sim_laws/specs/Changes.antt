@@ -1,12 +1,15 @@
 -- What a change of code must leave alone: what live code pointers stand for.
-use Rattle.std.specs.Prelude.{◌≡◌, ℕ, ◌+◌, ◌*◌, true, false, Some, slice_get}
+use Rattle.std.specs.Prelude.{◌≡◌, ℕ, ℤ, ◌+◌, ◌*◌, Bool, true, false, Some, None, slice_get}
 use Rattle.finite.specs.Maps.{contains}
+use Rattle.rv_isa.specs.declared.instr.Instr.TheVariants.{Jal}
+use Rattle.image.specs.Targets.{target}
 use Rattle.link_tags.specs.declared.value.Tag.TheVariants.{Link}
 use Rattle.hart.specs.declared.hart.Hart.{Hart}
 use Rattle.hart.specs.Harts.{reg}
 use Rattle.guest_mem.specs.Memory.{number_at}
 use Rattle.guest_mem.specs.Access.{with_link}
-use Rattle.layout.specs.Points.{Code, StandsFor}
+use Rattle.layout.specs.declared.point.Point.TheVariants.{Start}
+use Rattle.layout.specs.Points.{Code, StandsFor, read}
 use Rattle.layout.specs.Rows.{MovedRow}
 use Rattle.machine.specs.States.{State}
 use Rattle.machine.specs.Harts.{has_ended}
@@ -26,3 +29,30 @@ pub record KeepsPointers (c d : Code) (s : State) : Type 0 where
 -- the word w of memory, a link, has another number
 abbrev pub with_slot_link : (w number : ℕ) → State → State
 with_slot_link w number s = record s { memory = with_link s.memory (8 * w) number }
+
+-- ---- layouts that are given up
+-- From code c to code d there is nothing more at the addresses that are gone, and every other address is as it was. They are those of
+-- whole layouts.
+pub record GivesUp (gone : ℕ → Bool) (c d : Code) : Type 0 where
+  pub text : (x : ℕ) → d.text x ≡ c.text x
+  pub site : (x : ℕ) → d.site x ≡ c.site x
+  pub second : (x : ℕ) → d.second x ≡ c.second x
+  pub lost : (a : ℕ) → gone a ≡ true → d.point a ≡ None
+  pub word : (a : ℕ) → gone a ≡ false → d.word a ≡ c.word a
+  pub point : (a : ℕ) → gone a ≡ false → d.point a ≡ c.point a
+  pub home : (a : ℕ) → gone a ≡ false → d.home a ≡ c.home a
+  pub outside : (a : ℕ) → c.home a ≡ None → gone a ≡ false
+  pub whole : (a b : ℕ) → c.home a ≡ c.home b → gone a ≡ gone b
+
+-- the word at a goes to no address that is gone
+abbrev pub StaysClear : (gone : ℕ → Bool) → Code → ℕ → Type 0
+StaysClear gone c a = (rd : ℕ) (aim : ℤ) → read c.word a ≡ Some (Jal rd aim) → gone (target a aim) ≡ false
+
+-- no call that is left goes to an address that is gone
+pub record LeavesCalls (gone : ℕ → Bool) (c : Code) : Type 0 where
+  pub sites : (a x to : ℕ) → gone a ≡ false → c.point a ≡ Some (Start x) → c.site x ≡ Some to → StaysClear gone c a
+  pub seconds : (a x to : ℕ) → gone a ≡ false → c.point a ≡ Some (Start x) → c.second x ≡ Some to → StaysClear gone c a
+
+-- no live code pointer names one
+abbrev pub LeavesPointers : (gone : ℕ → Bool) → State → Type 0
+LeavesPointers gone s = (a : ℕ) → IsPointer s a → gone a ≡ false

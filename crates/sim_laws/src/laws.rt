@@ -1,6 +1,6 @@
 //! The laws of a machine whose code has been moved, for callers' proofs. The functions do nothing.
 
-ghost use Rattle.std.specs.Prelude.{◌≡◌, ◌≢◌, ℕ, ◌*◌, true, List, [], Option};
+ghost use Rattle.std.specs.Prelude.{◌≡◌, ◌≢◌, ℕ, ◌*◌, Bool, true, List, [], Option};
 ghost use Rattle.finite.specs.Maps.{contains};
 ghost use Rattle.image.specs.Picture.{Picture, IsKept};
 ghost use Rattle.image.specs.Texts.{word_at};
@@ -17,7 +17,7 @@ ghost use Rattle.sim_laws.specs.Origins.{origin};
 ghost use Rattle.sim_laws.specs.Codes.{IsCodeOf, AreLive};
 ghost use Rattle.sim_laws.specs.Related.{StatesRelated};
 ghost use Rattle.sim_laws.specs.Steps.{replaced_step, stepped, original_after, until_real, kind_until};
-ghost use Rattle.sim_laws.specs.Changes.{KeepsPointers, with_slot_link};
+ghost use Rattle.sim_laws.specs.Changes.{KeepsPointers, with_slot_link, GivesUp, LeavesCalls, LeavesPointers};
 
 /// The law of a step: after a step of the machine whose code has been moved it stands for the original one, after its step or as it
 /// was, by what the step was.
@@ -37,6 +37,13 @@ pub fn layout_steps_law()
 /// The law of a change of code: where each live code pointer goes on to stand for what it stood for, the machine does too.
 pub fn change_law()
     ensures { (p : Picture) (c d : Code) (r o : State) → KeepsPointers c d r → StatesRelated p c r o → StatesRelated p d r o }
+{}
+
+/// The law of layouts that are given up: where no call that is left and no live code pointer names an address of theirs, the rest
+/// renders the image, and the machine stands for what it stood for.
+pub fn giving_up_law()
+    ensures renders { (gone : ℕ → Bool) (c d : Code) → GivesUp gone c d → LeavesCalls gone c → Renders c → Renders d }
+    ensures follows { (p : Picture) (gone : ℕ → Bool) (c d : Code) (r o : State) → GivesUp gone c d → LeavesPointers gone r → StatesRelated p c r o → StatesRelated p d r o }
 {}
 
 /// The law of slots: a link in memory may get another number that stands for the same address of the original program.
