@@ -1,21 +1,23 @@
 -- The laws of code changes.
-use Rattle.std.proofs.Common.{◌≡◌, ℕ, ◌*◌, true, false, List, refl, sym, ap, ◌∙◌, subst}
-use Rattle.std.specs.Prelude.{Option, Some, slice_get}
-use Rattle.finite.specs.Maps.{contains}
+use Rattle.std.proofs.Common.{◌≡◌, ℕ, ◌-◌, ◌*◌, ◌/◌, true, false, List, [], ◌∷◌, get_or, refl, sym, ap, ◌∙◌, subst, arith}
+use Rattle.std.specs.Prelude.{Option, Some, slice_get, All}
+use Rattle.std.specs.List.{AllByRecursion}
+use Rattle.std.proofs.lemmas.List.Elements.{recursion_from_All}
+use Rattle.finite.specs.Maps.{contains, fill}
 use Rattle.image.specs.Picture.{Picture}
 use Rattle.image.specs.Picture as image
 use Rattle.link_tags.specs.declared.value.Tag.TheVariants.{Link}
 use Rattle.link_tags.specs.declared.value.Value.{Value}
-use Rattle.guest_mem.specs.Memory.{number_at}
+use Rattle.guest_mem.specs.Memory.{number_at, is_link_at, bytes_of}
+use Rattle.guest_mem.specs.Access.{with_link}
 use Rattle.hart.specs.declared.hart.Hart.{Hart}
 use Rattle.hart.specs.Harts.{reg}
 use Rattle.layout.specs.Points.{Code, StandsFor}
 use Rattle.machine.specs.Harts.{has_ended}
 use Rattle.machine.specs.States.{State}
-use Rattle.sim_laws.specs.Origins.{origin}
 use Rattle.sim_laws.specs.Codes.{IsCodeOf}
 use Rattle.sim_laws.specs.Related.{Both, neither, found, Lands, ValuesRelated, both_plain, both_links, MemoriesRelated, PlacesRelated, whole, half, HartsRelated, StatesRelated}
-use Rattle.sim_laws.specs.Changes.{at_pc, in_register, in_memory, KeepsPointers, with_slot_link}
+use Rattle.sim_laws.specs.Changes.{at_pc, in_register, in_memory, KeepsPointers, with_links, IsSent, with_memory}
 use Rattle.sim_laws.proofs.Lands.{origin_lands}
 use Rattle.sim_laws.proofs.MemoryLaws.{link_set}
 
@@ -77,18 +79,40 @@ module _ (p : Picture) (c d : Code) where
       waiting = s.waiting;
     }
 
--- a link in memory gets another number that stands for the same original
-module _ (p : Picture) (c : Code) (kept : image.IsKept p) (code : IsCodeOf p c) (w number : ℕ) (r o : State) where
-  pub slot_set : contains r.memory.links w ≡ true → StandsFor c number (origin c (number_at r.memory (8 * w))) → StatesRelated p c r o → StatesRelated p c (with_slot_link w number r) o
-  slot_set e f s =
+-- links in memory get other numbers that stand for the same originals
+module _ (p : Picture) (c : Code) (kept : image.IsKept p) (code : IsCodeOf p c) (o : State) where
+  -- the same by the numbers of the original memory, which stays
+  IsSentBy : ℕ × ℕ → Type 0
+  IsSentBy l = (is_link_at o.memory l.0 ≡ true) × StandsFor c l.1 (number_at o.memory (8 * (l.0 / 8)))
+
+  sent_by : (r : State) (l : ℕ × ℕ) → StatesRelated p c r o → IsSent c r.memory l → IsSentBy l
+  sent_by r l s h =
+      let linked : is_link_at o.memory l.0 ≡ true = ap (λ ls. contains ls (l.0 / 8)) (sym s.memory.links) ∙ h.0 in
+      (linked, subst (λ x. StandsFor c l.1 x) (origin_lands p c (s.memory.numbers (l.0 / 8) linked).stands) h.1)
+
+  all_sent_by : (r : State) (ls : List (ℕ × ℕ)) → StatesRelated p c r o → AllByRecursion (IsSent c r.memory) ls → AllByRecursion IsSentBy ls
+  all_sent_by r [] s h = tt
+  all_sent_by r (l ∷ ls) s h = (sent_by r l s h.0, all_sent_by r ls s h.1)
+
+  slot_set : (r : State) (l : ℕ × ℕ) → IsSentBy l → StatesRelated p c r o → StatesRelated p c (with_memory (with_link r.memory l.0 l.1) r) o
+  slot_set r l h s =
       let g = s.memory in
-      let linked : contains o.memory.links w ≡ true = ap (λ ls. contains ls w) (sym g.links) ∙ e in
-      let l = g.numbers w linked in
-      let to : StandsFor c number (number_at o.memory (8 * w)) = subst (λ x. StandsFor c number x) (origin_lands p c l.stands) f in
+      let w : ℕ = l.0 / 8 in
+      let k = g.numbers w h.0 in
+      let lands : Lands p c l.1 (number_at o.memory (8 * w)) = record { stands = h.1; whole = k.whole; fits = k.fits; outside = k.outside; unpaired = k.unpaired } in
+      let same : 8 * w / 8 ≡ w = omega arith in
       record {
         outcome = s.outcome;
         system = s.system;
-        memory = link_set p c kept code {m = r.memory} {n = o.memory} w number linked (record { stands = to; whole = l.whole; fits = l.fits; outside = l.outside; unpaired = l.unpaired }) g;
+        memory = subst (λ x. MemoriesRelated p c (record r.memory { bytes = fill r.memory.bytes (8 * x) 8 (λ q. get_or (bytes_of l.1) (q - 8 * x) 0) }) o.memory) same
+            (link_set p c kept code {m = r.memory} {n = o.memory} w l.1 h.0 lands g);
         harts = s.harts;
         waiting = s.waiting;
       }
+
+  slots_set_by : (ls : List (ℕ × ℕ)) (r : State) → AllByRecursion IsSentBy ls → StatesRelated p c r o → StatesRelated p c (with_memory (with_links ls r.memory) r) o
+  slots_set_by [] r h s = s
+  slots_set_by (l ∷ ls) r h s = slots_set_by ls (with_memory (with_link r.memory l.0 l.1) r) h.1 (slot_set r l h.0 s)
+
+  pub slots_set : (ls : List (ℕ × ℕ)) (r : State) → All (IsSent c r.memory) ls → StatesRelated p c r o → StatesRelated p c (with_memory (with_links ls r.memory) r) o
+  slots_set ls r h s = slots_set_by ls r (all_sent_by r ls s (recursion_from_All (IsSent c r.memory) ls h)) s

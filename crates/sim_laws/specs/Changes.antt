@@ -1,18 +1,19 @@
 -- What a change of code must leave alone: what live code pointers stand for.
-use Rattle.std.specs.Prelude.{◌≡◌, ℕ, ℤ, ◌+◌, ◌*◌, Bool, true, false, Some, None, slice_get}
+use Rattle.std.specs.Prelude.{◌≡◌, ℕ, ℤ, ◌+◌, ◌*◌, ◌/◌, Bool, true, false, List, [], ◌∷◌, Some, None, slice_get}
 use Rattle.finite.specs.Maps.{contains}
 use Rattle.rv_isa.specs.declared.instr.Instr.TheVariants.{Jal}
 use Rattle.image.specs.Targets.{target}
 use Rattle.link_tags.specs.declared.value.Tag.TheVariants.{Link}
 use Rattle.hart.specs.declared.hart.Hart.{Hart}
 use Rattle.hart.specs.Harts.{reg}
-use Rattle.guest_mem.specs.Memory.{number_at}
+use Rattle.guest_mem.specs.Memory.{Memory, is_link_at, number_at}
 use Rattle.guest_mem.specs.Access.{with_link}
 use Rattle.layout.specs.declared.point.Point.TheVariants.{Start}
 use Rattle.layout.specs.Points.{Code, StandsFor, read}
 use Rattle.layout.specs.Rows.{MovedRow}
 use Rattle.machine.specs.States.{State}
 use Rattle.machine.specs.Harts.{has_ended}
+use Rattle.sim_laws.specs.Origins.{origin}
 
 -- a is held as a code pointer: by the pc or a register of a hart that hasn't ended, or by a word of memory
 pub data IsPointer (s : State) (a : ℕ) : Type 0 where
@@ -26,9 +27,18 @@ pub record KeepsPointers (c d : Code) (s : State) : Type 0 where
   pub stands : (a x : ℕ) → IsPointer s a → StandsFor c a x → StandsFor d a x
   pub moved : (b x rd high : ℕ) → IsPointer s (b + 4) → MovedRow c b x rd high → MovedRow d b x rd high
 
--- the word w of memory, a link, has another number
-abbrev pub with_slot_link : (w number : ℕ) → State → State
-with_slot_link w number s = record s { memory = with_link s.memory (8 * w) number }
+-- ---- links in memory
+-- links, each by an address in its word, with other numbers
+abbrev pub with_links : List (ℕ × ℕ) → Memory → Memory
+with_links [] m = m
+with_links (l ∷ ls) m = with_links ls (with_link m l.0 l.1)
+
+-- the word is a link, and the other number stands for what the link does
+abbrev pub IsSent : Code → Memory → ℕ × ℕ → Type 0
+IsSent c m l = (is_link_at m l.0 ≡ true) × StandsFor c l.1 (origin c (number_at m (8 * (l.0 / 8))))
+
+abbrev pub with_memory : Memory → State → State
+with_memory m s = record s { memory = m }
 
 -- ---- layouts that are given up
 -- From code c to code d there is nothing more at the addresses that are gone, and every other address is as it was. They are those of

@@ -1,23 +1,20 @@
 //! The laws of a machine whose code has been moved, for callers' proofs. The functions do nothing.
 
-ghost use Rattle.std.specs.Prelude.{◌≡◌, ◌≢◌, ℕ, ◌*◌, Bool, true, List, [], Option};
-ghost use Rattle.finite.specs.Maps.{contains};
+ghost use Rattle.std.specs.Prelude.{◌≡◌, ◌≢◌, ℕ, Bool, List, [], All};
 ghost use Rattle.image.specs.Picture.{Picture, IsKept};
 ghost use Rattle.image.specs.Texts.{word_at};
-ghost use Rattle.guest_mem.specs.Memory.{number_at};
 ghost use Rattle.guest_sys.specs.State.{IsOrderly};
 ghost use Rattle.layout.specs.Laid.{Laid};
-ghost use Rattle.layout.specs.Points.{Code, StandsFor, code_of};
+ghost use Rattle.layout.specs.Points.{Code, code_of};
 ghost use Rattle.layout.specs.Rows.{Renders};
 ghost use Rattle.machine.specs.States.{State};
 ghost use Rattle.machine.specs.Start.{start_of};
 ghost use Rattle.machine.specs.Steps.{original_step};
 ghost use Rattle.sim_laws.specs.declared.stepped.Stepped.TheVariants.{Layout as LayoutStep};
-ghost use Rattle.sim_laws.specs.Origins.{origin};
 ghost use Rattle.sim_laws.specs.Codes.{IsCodeOf, AreLive};
 ghost use Rattle.sim_laws.specs.Related.{StatesRelated};
 ghost use Rattle.sim_laws.specs.Steps.{replaced_step, stepped, original_after, until_real, kind_until};
-ghost use Rattle.sim_laws.specs.Changes.{KeepsPointers, with_slot_link, GivesUp, LeavesCalls, LeavesPointers};
+ghost use Rattle.sim_laws.specs.Changes.{KeepsPointers, with_links, IsSent, with_memory, GivesUp, LeavesCalls, LeavesPointers};
 
 /// The law of a step: after a step of the machine whose code has been moved it stands for the original one, after its step or as it
 /// was, by what the step was.
@@ -46,10 +43,10 @@ pub fn giving_up_law()
     ensures follows { (p : Picture) (gone : ℕ → Bool) (c d : Code) (r o : State) → GivesUp gone c d → LeavesPointers gone r → StatesRelated p c r o → StatesRelated p d r o }
 {}
 
-/// The law of slots: a link in memory may get another number that stands for the same address of the original program.
-pub fn slot_law()
-    ensures { (p : Picture) (c : Code) (w number : ℕ) (r o : State) → IsKept p → IsCodeOf p c → contains r.memory.links w ≡ true
-        → StandsFor c number (origin c (number_at r.memory (8 * w))) → StatesRelated p c r o → StatesRelated p c (with_slot_link w number r) o }
+/// The law of slots: links in memory may get other numbers that stand for the same addresses of the original program.
+pub fn slots_law()
+    ensures { (p : Picture) (c : Code) (sent : List (ℕ × ℕ)) (r o : State) → IsKept p → IsCodeOf p c → All (IsSent c r.memory) sent
+        → StatesRelated p c r o → StatesRelated p c (with_memory (with_links sent r.memory) r) o }
 {}
 
 /// The law of codes: an image with well formed layouts, of which each Hop goes to a whole word, has the code of that image.
