@@ -1,6 +1,6 @@
 //! The laws of a machine whose code has been moved, for callers' proofs. The functions do nothing.
 
-ghost use Rattle.std.specs.Prelude.{◌≡◌, ◌≢◌, ℕ, Bool, List, [], All};
+ghost use Rattle.std.specs.Prelude.{◌≡◌, ◌≢◌, ℕ, Bool, List, [], All, Option};
 ghost use Rattle.image.specs.Picture.{Picture, IsKept};
 ghost use Rattle.image.specs.Texts.{word_at};
 ghost use Rattle.guest_sys.specs.State.{IsOrderly};

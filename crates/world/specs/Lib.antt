@@ -1,4 +1,5 @@
 pub mod Replacing
+pub mod Retiring
 pub mod Runs
 pub mod Told
 pub mod Worlds

@@ -1,11 +1,16 @@
 -- What a replacement makes of a world, and why it is refused. Source: this project; the outline is OCOLOS (Zhang et al., MICRO 2022).
-use Rattle.std.specs.Prelude.{◌≡◌, ◌≢◌, ℕ, ◌+◌, ◌*◌, ◌^◌, ◌<◌, List, slice_get, [], ◌∷◌, ◌++◌, length, Bool, true, false, is_some, All, Option, Some, None, IfSome, Result, Ok, Err}
+use Rattle.std.specs.Prelude.{◌≡◌, ◌≢◌, ℕ, ◌+◌, ◌*◌, ◌^◌, ◌<◌, ◌==◌, ◌&&◌, List, slice_get, [], ◌∷◌, ◌++◌, length, Bool, true, false, is_some, All, Option, Some, None, IfSome, Result, Ok, Err, unwrap_or, if◌then◌else◌}
+use Rattle.std.specs.List.{filter_map}
+use Rattle.std.specs.Option.{option_map, option_eq}
 use Rattle.oc_base.specs.declared.range.Range.{Range}
 use Rattle.image.specs.declared.ranges.TextRange.{TextRange}
+use Rattle.image.specs.declared.ranges.Aim.{Aim}
 use Rattle.image.specs.Texts.{word_at}
 use Rattle.image.specs.Picture.{Picture}
 use Rattle.plans.specs.declared.plan.Moved.{Moved}
+use Rattle.guest_mem.specs.Memory.{Memory, is_link_at, number_at}
 use Rattle.layout.specs.Laid.{Laid, IsLaid}
+use Rattle.layout.specs.Points.{Code, start_of}
 use Rattle.layout.specs.Alone.{RendersAlone}
 use Rattle.emit.specs.Entries.{entries_of}
 use Rattle.emit.specs.Emitted.{IsEmitted, plan_unreadable}
@@ -13,16 +18,18 @@ use Rattle.emit.specs.declared.fault.EmitFault.{EmitFault}
 use Rattle.emit.specs.declared.fault.EmitFault.TheVariants as fault
 use Rattle.emit.specs.Placed as emitted
 use Rattle.patcher.specs.declared.patches.Patches.{Patches}
-use Rattle.patcher.specs.Goals.{goal_of}
+use Rattle.patcher.specs.Goals.{goal_of, moved_to}
 use Rattle.patcher.specs.Patched.{ArePatches, IsPatchedText, ArePatched, joined}
 use Rattle.patcher.specs.Reach.{AllReach}
 use Rattle.patcher.specs.Reach as reach
 use Rattle.region.specs.Free.{AreFree, fit, largest, taken}
 use Rattle.sched_log.specs.declared.facts.Refusal.{Refusal}
 use Rattle.sched_log.specs.declared.facts.Refusal.TheVariants as refusal
+use Rattle.sim_laws.specs.Changes.{with_links, with_memory}
 use Rattle.sim_laws.specs.Codes.{GoesToWord}
+use Rattle.sim_laws.specs.Origins.{origin}
 use Rattle.world.specs.declared.counts.Counts.{Counts}
-use Rattle.world.specs.Worlds.{Replaced, more}
+use Rattle.world.specs.Worlds.{Replaced, code_of, more}
 
 -- how many bytes the layout of a plan has
 unfoldable pub size_of : Picture → List Moved → ℕ
@@ -63,6 +70,19 @@ abbrev pub told_as : EmitFault → Refusal
 told_as (fault.Unreadable g why) = refusal.Unreadable g why
 told_as (fault.BranchReach at target) = refusal.BranchReach at target
 told_as fault.NoMemory = refusal.NoMemory
+
+-- ---- slots
+-- The slot is a link still, and stands for where its function starts.
+abbrev pub is_own : Picture → Code → Memory → Aim → Bool
+is_own p c m s = is_link_at m s.at && option_eq (λ x y. x == y) (start_of p s.func) (Some (origin c (number_at m s.at)))
+
+-- the slot's address, and where the new layout starts its function, or else the original start
+abbrev pub sent_to : Picture → Option Laid → Aim → Option (ℕ × ℕ)
+sent_to p new s = option_map (λ x. (s.at, unwrap_or (moved_to new x) x)) (start_of p s.func)
+
+-- the slots that are sent there
+unfoldable pub slots_sent : Picture → Code → Option Laid → Memory → List (ℕ × ℕ)
+slots_sent p c new m = filter_map (λ s. if is_own p c m s then sent_to p new s else None) p.slots
 
 -- ---- words of 32 bits
 abbrev pub HasShortWords : Laid → Type 0
@@ -106,7 +126,8 @@ abbrev pub left_by : Option Laid → List Range → List Range
 left_by None free = free
 left_by (Some l) free = taken l.base (l.base + 4 * length l.words) free
 
--- The layout is made, and every call of text and of the live layouts is sent to it, or back to original code.
+-- The layout is made, and every call of text and of the live layouts is sent to it, or back to original code, and so is each slot that
+-- the program hasn't overwritten.
 pub record IsReplaced (plan : List Moved) (w v : Replaced) : Type 0 where
   pub new : Option Laid
   pub text : List TextRange
@@ -119,11 +140,13 @@ pub record IsReplaced (plan : List Moved) (w v : Replaced) : Type 0 where
   -- the words that are made have 32 bits, so there is one such world
   pub short_words : IfSome new HasShortWords
   pub short_calls : HasShortCalls w.image new text
+  pub short_older : All HasShortWords older
   pub is : v ≡ record w {
     text = text;
     lives = joined older new;
     numbers = numbered new w.counts w.numbers;
     free = left_by new w.free;
+    machine = with_memory (with_links (slots_sent w.image (code_of w) new w.machine.memory) w.machine.memory) w.machine;
     counts = done_by new w.counts;
   }
 

@@ -11,6 +11,7 @@ use Rattle.sim_laws.specs.Steps.{is_layout, kind_until}
 use Rattle.world.specs.declared.counts.Counts.{Counts}
 use Rattle.world.specs.Worlds.{Replaced, code_of, kind_of, step_of}
 use Rattle.world.specs.Replacing.{Replaces}
+use Rattle.world.specs.Retiring.{Retires}
 
 abbrev pub is_real : Stepped → Bool
 is_real kind.Real = true
@@ -57,12 +58,14 @@ pub data Atom : Type 0 where
   a_step : (h : ℕ) → Atom
   a_real_step : (h : ℕ) → Atom
   a_replacement : (plan : List Moved) → Atom
+  a_retirement : Atom
 
--- the world v is w after this; code is moved by a plan of the image, where no layout is live
+-- the world v is w after this; code is moved by a plan of the image
 abbrev pub Makes : Atom → Replaced → Replaced → Type 0
 Makes (a_step h) w v = v ≡ step_of h w
 Makes (a_real_step h) w v = v ≡ real_step_of h w
-Makes (a_replacement plan) w v = (plan_fault w.image plan ≡ None) × (w.lives ≡ []) × Replaces plan w v
+Makes (a_replacement plan) w v = (plan_fault w.image plan ≡ None) × Replaces plan w v
+Makes a_retirement w v = Retires w v
 
 abbrev pub of_real : Stepped → ℕ → List ℕ
 of_real k h = if is_real k then h ∷ [] else []
@@ -72,6 +75,7 @@ abbrev pub harts_of : Atom → Replaced → List ℕ
 harts_of (a_step h) w = of_real (kind_of h w) h
 harts_of (a_real_step h) w = of_real (real_kind_of h w) h
 harts_of (a_replacement plan) w = []
+harts_of a_retirement w = []
 
 -- the world v is w after these in turn, and these are the harts of the real steps
 abbrev pub IsRun : List Atom → List ℕ → Replaced → Replaced → Type 0
@@ -82,3 +86,10 @@ IsRun (a ∷ more) hs w v = (u : Replaced) × (later : List ℕ) × Makes a w u 
 abbrev pub stretch : List ℕ → List Atom
 stretch [] = []
 stretch (h ∷ hs) = a_real_step h ∷ stretch hs
+
+-- for each hart of a list one real step, with replacements and retirements put in at any places
+pub data IsStretched : List ℕ → List Atom → Type 0 where
+  no_more : IsStretched [] []
+  real : {hs : List ℕ} {atoms : List Atom} → (h : ℕ) → IsStretched hs atoms → IsStretched (h ∷ hs) (a_real_step h ∷ atoms)
+  replacing : {hs : List ℕ} {atoms : List Atom} → (plan : List Moved) → IsStretched hs atoms → IsStretched hs (a_replacement plan ∷ atoms)
+  retiring : {hs : List ℕ} {atoms : List Atom} → IsStretched hs atoms → IsStretched hs (a_retirement ∷ atoms)

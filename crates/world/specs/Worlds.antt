@@ -1,5 +1,5 @@
 -- A machine whose code is moved while it runs: its state, what its code always keeps, and a step of it. Source: this project.
-use Rattle.std.specs.Prelude.{◌≡◌, ℕ, ◌+◌, ◌-◌, ◌*◌, ◌%◌, ◌^◌, min, ◌&&◌, not, nat_le, nat_lt, Bool, List, [], length, All, AllPairs, Option, Some, if◌then◌else◌}
+use Rattle.std.specs.Prelude.{◌≡◌, ℕ, ◌+◌, ◌-◌, ◌*◌, ◌%◌, ◌^◌, ◌<◌, min, ◌&&◌, not, nat_le, nat_lt, Bool, List, [], length, All, AllPairs, Option, Some, if◌then◌else◌}
 use Rattle.std.specs.List.{list_any}
 use Rattle.std.specs.Option.{option_map}
 use Rattle.oc_base.specs.declared.range.Range.{Range}
@@ -11,6 +11,7 @@ use Rattle.layout.specs.declared.point.Point.{Point}
 use Rattle.layout.specs.declared.point.Point.TheVariants.{Start}
 use Rattle.layout.specs.Points.{Code, in_range, live_at, here_point}
 use Rattle.layout.specs.Points as points
+use Rattle.layout.specs.Rows.{CallsAim}
 use Rattle.layout.specs.Alone.{InRegion}
 use Rattle.machine.specs.Start.{start_of}
 use Rattle.machine.specs.States.{State}
@@ -59,7 +60,10 @@ pub record IsSound (p : Picture) (text : List TextRange) (lives : List Laid) (nu
   pub placed : IsPlaced p text lives
   -- each Hop goes to a whole word
   pub hops : All (λ l. All GoesToWord l.points) lives
-  -- the layouts lie in the region, apart from one another
+  -- each call is the original word, or goes to a live Start of its function or to its original start
+  pub aims : CallsAim (code_in p text lives)
+  -- the layouts have words, and lie in the region, apart from one another
+  pub some : All (λ l. 0 < length l.words) lives
   pub within : All (λ l. InRegion p l.base (length l.words)) lives
   pub apart : AllPairs LieApart lives
   pub numbered : length numbers ≡ length lives
