@@ -1,6 +1,6 @@
 -- Of the layouts that are marked, those that don't wait have been followed; once none waits, exactly the ones that are referred to are marked.
-use Rattle.std.proofs.Common.{◌≡◌, ℕ, ◌+◌, ◌<◌, Bool, true, false, List, [], ◌∷◌, ◌++◌, length, get_or, Option, Some, None, ◌⊎◌, inl, inr, refl, sym, ap, subst, ◌∙◌, arith}
-use Rattle.std.specs.Prelude.{◌↔◌, not, Contains, count_by}
+use Rattle.std.proofs.Common.{◌≡◌, ℕ, ◌+◌, ◌<◌, Bool, true, false, List, [], ◌∷◌, ◌++◌, length, get_or, Option, Some, None, inl, inr, refl, ap, subst, ◌∙◌, arith}
+use Rattle.std.specs.Prelude.{not, Contains, count_by}
 use Rattle.std.specs.List.{slice_get}
 use Rattle.std.proofs.lemmas.Bool.{cases_lt, cases_order}
 use Rattle.std.proofs.lemmas.List.Elements.{Contains-push, Contains-push_cases, Contains-append_left, Contains-get_or}
@@ -8,13 +8,12 @@ use Rattle.std.proofs.lemmas.List.Quantifiers.{all_pairs_push}
 use Rattle.std.proofs.lemmas.List.{length_push}
 use Rattle.std.proofs.lemmas.Option.{slice_get_within, get_or_from_slice_get, slice_get-get_or}
 use Rattle.layout.specs.Laid.{Laid}
-use Rattle.retire.specs.References.{PointInto, CallsInto, aims_of, Refers, by_pointer, by_call}
+use Rattle.retire.specs.References.{PointInto, CallsInto, aims_of, Refers, by_pointer, by_call, AreUnreferenced}
 use Rattle.retire.specs.Marks.{IsMarked, Marked, IsClosing, AreReferred, AreUnmarked, left_of}
 use Rattle.retire.specs.declared.marks.Marks.{Marks}
-use Rattle.retire.proofs.Places.{there, same_place}
 
 -- a layout that a referred one calls is referred to, itself or another
-called : (lives : List Laid) (held : List ℕ) (j k : ℕ) → Refers lives held j → CallsInto lives j k → Refers lives held k
+pub called : (lives : List Laid) (held : List ℕ) (j k : ℕ) → Refers lives held j → CallsInto lives j k → Refers lives held k
 called lives held j k r h = elim (cases_order j k) [
   | inl same ↦ subst (Refers lives held) same r
   | inr other ↦ by_call j k (λ e. elim other [ inl below ↦ omega (arith, e, below) | inr above ↦ omega (arith, e, above) ]) r h
@@ -99,21 +98,21 @@ ends lives held m closing empty = record {
 }
 
 -- the positions that aren't marked are those of layouts that aren't referred to
-pub left_out : (lives : List Laid) (held : List ℕ) (marks : List Bool) (n : ℕ) (positions : List ℕ) → n ≡ length marks → AreReferred lives held marks → AreUnmarked marks n positions
-    → (k : ℕ) → Contains positions k ↔ ((k < length lives) × (Refers lives held k → ⊥))
-left_out lives held marks n positions e referred unmarked k = (
-  λ h. (let u = (unmarked.exact k).0 h in (omega (arith, e, u.0, referred.size), λ r. u.1 ((referred.marked k).1 r))),
-  λ h. (unmarked.exact k).1 (omega (arith, e, h.0, referred.size), λ m. h.1 ((referred.marked k).0 m)),
-)
-
-pub others_refer : (lives : List Laid) (held : List ℕ) (marks : List Bool) (n : ℕ) (positions : List ℕ) → n ≡ length marks → AreReferred lives held marks → AreUnmarked marks n positions
-    → (k : ℕ) → k < length lives → (Contains positions k → ⊥) → Refers lives held k
-others_refer lives held marks n positions e referred unmarked k lt out = by_mark (slice_get marks k) refl
+pub unreferenced : (lives : List Laid) (held : List ℕ) (marks : List Bool) (positions : List ℕ) → AreReferred lives held marks → AreUnmarked marks (length marks) positions
+    → AreUnreferenced lives held positions
+unreferenced lives held marks positions referred unmarked = record {
+  ascending = unmarked.ascending;
+  exact = λ k. (
+    λ h. (let u = (unmarked.exact k).0 h in (omega (arith, u.0, referred.size), λ r. u.1 ((referred.marked k).1 r))),
+    λ h. (unmarked.exact k).1 (omega (arith, h.0, referred.size), λ m. h.1 ((referred.marked k).0 m)),
+  );
+  others = λ k lt out. by_mark k lt out (slice_get marks k) refl;
+}
   where
-    by_mark : (o : Option Bool) → slice_get marks k ≡ o → Refers lives held k
-    by_mark None f = absurd (let at = slice_get-get_or marks k true (omega (arith, lt, referred.size)) in cc)
-    by_mark (Some false) f = absurd (out ((unmarked.exact k).1 (omega (arith, e, lt, referred.size), λ m. absurd (cc))))
-    by_mark (Some true) f = (referred.marked k).0 f
+    by_mark : (k : ℕ) → k < length lives → (Contains positions k → ⊥) → (o : Option Bool) → slice_get marks k ≡ o → Refers lives held k
+    by_mark k lt out None f = absurd (let at = slice_get-get_or marks k true (omega (arith, lt, referred.size)) in cc)
+    by_mark k lt out (Some false) f = absurd (out ((unmarked.exact k).1 (omega (arith, lt, referred.size), λ m. absurd (cc))))
+    by_mark k lt out (Some true) f = (referred.marked k).0 f
 
 -- ---- the positions that aren't marked
 pub unmarked_none : (marks : List Bool) (positions : List ℕ) → positions ≡ [] → AreUnmarked marks 0 positions

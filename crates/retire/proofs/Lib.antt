@@ -1,3 +1,4 @@
 pub mod Closing
+pub mod LeastSet
 pub mod Marking
 pub mod Places

@@ -1,16 +1,15 @@
 -- More positions marked.
-use Rattle.std.proofs.Common.{◌≡◌, ℕ, zero, suc, ◌+◌, ◌<◌, ◌≤◌, Bool, true, false, cond, List, [], ◌∷◌, ◌++◌, length, get_or, set, take, Option, Some, None, ◌⊎◌, inl, inr, refl, sym, ap, subst, ◌∙◌, arith}
-use Rattle.std.specs.Prelude.{◌↔◌, not, Any, Contains, count_by}
+use Rattle.std.proofs.Common.{◌≡◌, ℕ, zero, suc, ◌+◌, ◌<◌, Bool, true, false, cond, List, [], ◌∷◌, ◌++◌, length, get_or, set, take, Some, None, ◌⊎◌, inl, inr, refl, sym, ap, subst, ◌∙◌, arith}
+use Rattle.std.specs.Prelude.{◌↔◌, not, Any, count_by}
 use Rattle.std.specs.List.{slice_get}
-use Rattle.std.proofs.lemmas.Bool.{cases_lt, cases_order}
-use Rattle.std.proofs.lemmas.List.{length-set, length_push, get_or-set_same, get_or-set_other, take_more}
+use Rattle.std.proofs.lemmas.Bool.{cases_order}
+use Rattle.std.proofs.lemmas.List.{length-set, length_push, get_or-set_same, take_more}
 use Rattle.std.proofs.lemmas.List.Elements.{Contains-push, Contains-push_cases, Contains-append_left, Contains-append_right, Contains-append_cases}
-use Rattle.std.proofs.lemmas.List.Quantifiers.{Any-push}
 use Rattle.std.proofs.lemmas.List.Sums.{sum_by-set}
-use Rattle.std.proofs.lemmas.Option.{slice_get_within, get_or_from_slice_get, slice_get-get_or}
+use Rattle.std.proofs.lemmas.Option.{slice_get_within, slice_get-get_or}
 use Rattle.layout.specs.Laid.{Laid}
 use Rattle.retire.specs.References.{Covers, LiesIn, PointInto}
-use Rattle.retire.specs.Marks.{IsMarked, Marked, left_of}
+use Rattle.retire.specs.Marks.{IsMarked, Marked}
 use Rattle.retire.specs.declared.marks.Marks.{Marks}
 use Rattle.retire.proofs.Places.{there}
 
@@ -122,12 +121,6 @@ newly m n k lt unmarked marks waiting = record {
 any_nil : {X : Type 0} (P : X → Type 0) (k : ℕ) → Any P [] → ⊥
 any_nil P k (i, x, lt, at, p) = omega (arith, lt)
 
-any_push_cases : {X : Type 0} (P : X → Type 0) (xs : List X) (y : X) → Any P (xs ++ y ∷ []) → Any P xs ⊎ P y
-any_push_cases P xs y (i, x, lt, at, p) = elim (Contains-push_cases xs y x (i, lt, at)) [
-  | inl (k, within, is) ↦ inl (k, x, within, is, p)
-  | inr same ↦ inr (subst P (sym same) p)
-]
-
 any_append_left : {X : Type 0} (P : X → Type 0) (xs ys : List X) → Any P xs → Any P (xs ++ ys)
 any_append_left P xs ys (i, x, lt, at, p) = (let c = Contains-append_left xs ys x (i, lt, at) in (c.0, x, c.1, c.2, p))
 
@@ -140,19 +133,12 @@ any_append_cases P xs ys (i, x, lt, at, p) = elim (Contains-append_cases xs ys x
   | inr (k, within, is) ↦ inr (k, x, within, is, p)
 ]
 
+any_one : (lives : List Laid) (a k : ℕ) → PointInto lives (a ∷ []) k → LiesIn lives a k
+any_one lives a k (zero, x, lt, at, p) = subst (λ (b : ℕ). LiesIn lives b k) (sym at) p
+any_one lives a k (suc i, x, lt, at, p) = absurd (omega arith)
+
 pub holders_none : (lives : List Laid) (m : Marks) → Marked (PointInto lives []) m m
 holders_none lives m = unchanged (PointInto lives []) m (λ k h. absurd (any_nil (λ a. LiesIn lives a k) k h))
-
-pub holders_more : (lives : List Laid) (addresses : List ℕ) (i d : ℕ) (l m n : Marks) → i < length addresses
-    → Marked (PointInto lives (take i addresses)) l m → Marked (LiesIn lives (get_or addresses i d)) m n → Marked (PointInto lives (take (i + 1) addresses)) l n
-holders_more lives addresses i d l m n lt before now =
-    rw (take_more addresses i d lt) (renamed (λ k. PointInto lives (take i addresses) k ⊎ LiesIn lives (get_or addresses i d) k) (PointInto lives (take i addresses ++ get_or addresses i d ∷ [])) l n
-    (λ k h. elim h [
-      | inl old ↦ any_append_left (λ b. LiesIn lives b k) (take i addresses) (get_or addresses i d ∷ []) old
-      | inr new ↦ Any-push (λ b. LiesIn lives b k) (take i addresses) (get_or addresses i d) new
-    ])
-    (λ k h. any_push_cases (λ b. LiesIn lives b k) (take i addresses) (get_or addresses i d) h)
-    (joined (PointInto lives (take i addresses)) (LiesIn lives (get_or addresses i d)) l m n before now))
 
 pub holders_joined : (lives : List Laid) (xs ys : List ℕ) (l m n : Marks) → Marked (PointInto lives xs) l m → Marked (PointInto lives ys) m n → Marked (PointInto lives (xs ++ ys)) l n
 holders_joined lives xs ys l m n before now =
@@ -160,6 +146,13 @@ holders_joined lives xs ys l m n before now =
     (λ k h. elim h [ inl p ↦ any_append_left (λ a. LiesIn lives a k) xs ys p | inr q ↦ any_append_right (λ a. LiesIn lives a k) xs ys q ])
     (λ k h. any_append_cases (λ a. LiesIn lives a k) xs ys h)
     (joined (PointInto lives xs) (PointInto lives ys) l m n before now)
+
+pub holders_more : (lives : List Laid) (addresses : List ℕ) (i d : ℕ) (l m n : Marks) → i < length addresses
+    → Marked (PointInto lives (take i addresses)) l m → Marked (LiesIn lives (get_or addresses i d)) m n → Marked (PointInto lives (take (i + 1) addresses)) l n
+holders_more lives addresses i d l m n lt before now =
+    let a = get_or addresses i d in
+    rw (take_more addresses i d lt) (holders_joined lives (take i addresses) (a ∷ []) l m n before
+    (renamed (LiesIn lives a) (PointInto lives (a ∷ [])) m n (λ k h. (0, a, omega arith, refl, h)) (any_one lives a) now))
 
 -- ---- the layout that holds an address
 pub holder_within : (lives : List Laid) (at k : ℕ) (marks : List Bool) → length marks ≡ length lives → LiesIn lives at k → k < length marks

@@ -1,5 +1,5 @@
 -- Which layouts are referred to. Source: after OCOLOS.
-use Rattle.std.specs.Prelude.{◌≡◌, ◌≢◌, ℕ, ◌+◌, ◌*◌, ◌≤◌, ◌<◌, ◌⊎◌, List, ◌++◌, length, Any, Option, Some, None}
+use Rattle.std.specs.Prelude.{◌≢◌, ◌↔◌, ℕ, ◌+◌, ◌*◌, ◌≤◌, ◌<◌, ◌⊎◌, List, ◌++◌, length, Any, AllPairs, Contains, Option, Some, None}
 use Rattle.std.specs.List.{slice_get, filter_map}
 use Rattle.std.specs.Option.{IsSomeAnd}
 use Rattle.rv_isa.specs.declared.instr.Instr.{Instr}
@@ -48,3 +48,9 @@ CallsInto lives j k = IsSomeAnd (slice_get lives j) (λ l. PointInto lives (aims
 pub data Refers (lives : List Laid) (held : List ℕ) : ℕ → Type 0 where
   by_pointer : (k : ℕ) → PointInto lives held k → Refers lives held k
   by_call : (j k : ℕ) → j ≢ k → Refers lives held j → CallsInto lives j k → Refers lives held k
+
+-- the positions of the layouts that aren't referred to, ascending; each other layout is referred to
+pub record AreUnreferenced (lives : List Laid) (held positions : List ℕ) : Type 0 where
+  pub ascending : AllPairs (λ j k. j < k) positions
+  pub exact : (k : ℕ) → Contains positions k ↔ ((k < length lives) × (Refers lives held k → ⊥))
+  pub others : (k : ℕ) → k < length lives → (Contains positions k → ⊥) → Refers lives held k

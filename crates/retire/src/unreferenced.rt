@@ -1,7 +1,7 @@
 //! The layouts that nothing refers to.
 
-ghost use Rattle.std.specs.Prelude.{◌≡◌, ◌↔◌, ℕ, ◌<◌, ◌^◌, ◌++◌, length, AllPairs, Contains, IfOk};
-ghost use Rattle.retire.specs.References.{LieApart, Refers};
+ghost use Rattle.std.specs.Prelude.{◌<◌, ◌^◌, ◌++◌, length, AllPairs, IfOk};
+ghost use Rattle.retire.specs.References.{LieApart, AreUnreferenced};
 ghost use Rattle.retire.specs.Marks.{IsClosing, AreReferred, AreUnmarked};
 
 use crate::aims::aims_of;
@@ -61,7 +61,7 @@ fn unmarked(alloc: Global, marked: &[bool]) -> Result<Vec<u32>, NoMemory>
 }
 
 /// The positions of the layouts that nothing refers to, ascending. A layout is referred to by a pc, a link or an aim that points
-/// into it, and by the calls of another layout that is referred to.
+/// into it, and by a call of another layout that is referred to. Aims are the targets of the calls of text.
 pub fn unreferenced(
     alloc: Global,
     lives: &[Layout],
@@ -71,9 +71,7 @@ pub fn unreferenced(
 ) -> Result<Vec<u32>, NoMemory>
     requires few { length lives.now < 2 ^ 32 }
     requires apart { AllPairs LieApart lives.now }
-    ensures ascending { IfOk result (λ v. AllPairs (λ j k. j < k) v.items) }
-    ensures exact { IfOk result (λ v. (k : ℕ) → Contains v.items k ↔ ((k < length lives.now) × (Refers lives.now (pcs.now ++ links.now ++ aims.now) k → ⊥))) }
-    ensures others { IfOk result (λ v. (k : ℕ) → k < length lives.now → (Contains v.items k → ⊥) → Refers lives.now (pcs.now ++ links.now ++ aims.now) k) }
+    ensures { IfOk result (λ v. AreUnreferenced lives.now (pcs.now ++ links.now ++ aims.now) v.items) }
 {
     let index = Index::of(alloc, lives)?;
     let marked = referred(alloc, &index, pcs, links, aims)?;

@@ -1,7 +1,5 @@
-use Rattle.std.proofs.Common.{◌≡◌, ◌<◌, length, refl, subst, ◌∙◌, List, ℕ, rules, arith}
+use Rattle.std.proofs.Common.{◌<◌, length, refl, ◌∙◌, rules}
 use Rattle.std.proofs.lemmas.Option.{slice_get_read}
-use Rattle.retire.specs.References.{PointInto}
-use Rattle.retire.specs.Marks.{Marked}
 use Rattle.retire.proofs.Closing.{follows, ends, waits_within, shrinks}
 use Rattle.retire.proofs.unreferenced.referred.Goals as goal
 

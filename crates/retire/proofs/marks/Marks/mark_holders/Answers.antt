@@ -1,7 +1,5 @@
-use Rattle.std.proofs.Common.{◌∙◌, subst}
+use Rattle.std.proofs.Common.{◌∙◌}
 use Rattle.std.proofs.lemmas.List.{take_all}
-use Rattle.retire.specs.References.{PointInto}
-use Rattle.retire.specs.Marks.{Marked}
 use Rattle.retire.proofs.Marking.{holders_none, holders_more}
 use Rattle.retire.proofs.marks.Marks.mark_holders.Goals as goal
 
