@@ -16,7 +16,7 @@ use Rattle.patcher.specs.Patched.{IsSet, IsPatchedLayout, ArePatched, LieApart, 
 use Rattle.patcher.proofs.Patching.{same_item}
 
 -- ---- one layout
-here_back : (l : Laid) (a : ℕ) (h : Here) → here_in l a ≡ Some h → (item_at l.base l.words a ≡ Some h.word) × (point_in l a ≡ Some h.point) × (h.home ≡ l.base)
+pub here_back : (l : Laid) (a : ℕ) (h : Here) → here_in l a ≡ Some h → (item_at l.base l.words a ≡ Some h.word) × (point_in l a ≡ Some h.point) × (h.home ≡ l.base)
 unfolding here_in
 here_back l a h e = by_parts (item_at l.base l.words a) (item_at l.base l.points a) refl refl e
   where
@@ -48,7 +48,7 @@ or_none : {X : Type 0} (o : Option X) → option_or o None ≡ o
 or_none None = refl
 or_none (Some x) = refl
 
-live_one : (l : Laid) (a : ℕ) → live_at (l ∷ []) a ≡ here_in l a
+pub live_one : (l : Laid) (a : ℕ) → live_at (l ∷ []) a ≡ here_in l a
 unfolding live_at
 live_one l a = or_none (here_in l a)
 
@@ -185,7 +185,7 @@ live_last (m ∷ ms) l a e = by_here (here_in m a) refl (live_last ms l a)
     by_here (Some i) k ih = absurd (let f = live_first m ms a i k in cc)
 
 -- layouts that lie apart share no address
-here_bounds : (l : Laid) (a : ℕ) (h : Here) → here_in l a ≡ Some h → (l.base ≤ a) × (a < l.base + 4 * length l.words)
+pub here_bounds : (l : Laid) (a : ℕ) (h : Here) → here_in l a ≡ Some h → (l.base ≤ a) × (a < l.base + 4 * length l.words)
 here_bounds l a h e =
     let b = (here_back l a h e).0 in
     let some : IsSome (item_at l.base l.words a) = rw b refl in

@@ -15,7 +15,7 @@ use Rattle.layout.specs.declared.point.Point.{Point}
 use Rattle.layout.specs.declared.point.Point.TheVariants.{Start, Hop, Mid}
 use Rattle.layout.specs.Laid.{Laid, IsLaid, item_at, point_in}
 use Rattle.layout.specs.Points.{Code, in_range, read, site_of, second_of, start_of, Here, here_in, here_point, live_at, code_of}
-use Rattle.layout.specs.Rows.{StartRow, HopRow, MidRow, Renders}
+use Rattle.layout.specs.Rows.{StartRow, HopRow, MidRow, Renders, GoesTo, CallsAim}
 use Rattle.layout.specs.Alone.{alone, NamesCalls}
 use Rattle.layout.proofs.Places.{item_here}
 use Rattle.layout.proofs.TextRows.{read_is, read_same}
@@ -23,7 +23,7 @@ use Rattle.patcher.specs.declared.goal.Goal.{Goal}
 use Rattle.patcher.specs.declared.goal.Goal.TheVariants.{Jump, Same}
 use Rattle.patcher.specs.declared.patches.Patches.{Patches}
 use Rattle.patcher.specs.Goals.{link_of, is_start, start_in, moved_to, site_goal, second_by, goal_of, goal_at, IsMade}
-use Rattle.patcher.specs.Patched.{ArePatches, IsSet, IsPatchedText, ArePatched, texts_with, layouts_with, CanJoin, CanPlace, joined, IsPlaced, GoesTo, CallsAim}
+use Rattle.patcher.specs.Patched.{ArePatches, IsSet, IsPatchedText, ArePatched, texts_with, layouts_with, CanJoin, CanPlace, joined, IsPlaced}
 use Rattle.patcher.proofs.CallWords.{IsJalr, site_is_jal, second_is_jalr, IsStart, start_outside}
 use Rattle.patcher.proofs.MoreRows.{Carries, kept_row, site_row, second_row, original_row, hop_row, mid_row, target_back}
 use Rattle.patcher.proofs.Patching.{fits, patched_text, patched_layouts, spans_all}

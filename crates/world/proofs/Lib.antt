@@ -11,3 +11,12 @@ pub mod Starting
 pub mod Stepping
 pub mod Telling
 pub mod ShortWords
+pub mod GivenUp
+pub mod Held
+pub mod LeftOver
+pub mod Leading
+pub mod Referring
+pub mod Retirement
+pub mod Spread
+pub mod RelatedAgain
+pub mod OneByOne

@@ -68,12 +68,12 @@ steps_more n h w v new e f = rw (add-one n) (f ∙ ap (real_step_of h) e ∙ tur
     turn zero u = refl
     turn (suc m) u = turn m (real_step_of h u)
 
-ended_step : (h : ℕ) (w : Replaced) → is_some w.machine.outcome ≡ true → step_of h w ≡ w
+pub ended_step : (h : ℕ) (w : Replaced) → is_some w.machine.outcome ≡ true → step_of h w ≡ w
 unfolding step_of replaced_step
 ended_step h w e =
     (λ i. record w { machine = ended_stays (code_of w).word (origin (code_of w)) w.image h w.machine e i; counts = counted (ended_over (code_of w) h w.machine e i) w.counts })
 
-ended_real : (h : ℕ) (w : Replaced) → is_some w.machine.outcome ≡ true → real_step_of h w ≡ w
+pub ended_real : (h : ℕ) (w : Replaced) → is_some w.machine.outcome ≡ true → real_step_of h w ≡ w
 unfolding until_real
 ended_real h w e = ap (λ k. cond (is_layout k) (until_real 2 h (step_of h w)) (step_of h w)) (ended_over (code_of w) h w.machine e) ∙ ended_step h w e
 

@@ -1,6 +1,6 @@
 -- What a retirement makes of a world. Source: this project; the outline is OCOLOS (Zhang et al., MICRO 2022).
-use Rattle.std.specs.Prelude.{◌≡◌, ◌↔◌, ℕ, ℤ, ◌+◌, ◌*◌, ◌<◌, Bool, true, false, not, List, [], ◌∷◌, ◌++◌, length, map, filter, take, drop, slice_get, AllPairs, Contains, is_some, IsSome, Option, Some, None, Result, Ok, Err, if◌then◌else◌}
-use Rattle.std.specs.List.{filter_map, flat_map, range_with_len}
+use Rattle.std.specs.Prelude.{◌≡◌, ◌↔◌, ℕ, ℤ, ◌+◌, ◌*◌, ◌%◌, ◌<◌, ◌≤◌, Bool, true, false, not, ◌&&◌, List, [], ◌∷◌, ◌++◌, length, map, drop, slice_get, All, AllPairs, Contains, is_some, IsSome, Option, Some, None, Result, Ok, Err, if◌then◌else◌}
+use Rattle.std.specs.List.{filter_map, flat_map, list_any, remove}
 use Rattle.oc_base.specs.declared.fault.NoMemory.{NoMemory}
 use Rattle.oc_base.specs.declared.range.Range.{Range}
 use Rattle.rv_isa.specs.declared.instr.Cond.{Cond}
@@ -14,34 +14,33 @@ use Rattle.link_tags.specs.declared.value.Value.{Value}
 use Rattle.link_tags.specs.Values.{is_link}
 use Rattle.guest_mem.specs.Access.{links_of}
 use Rattle.hart.specs.declared.hart.Hart.{Hart}
-use Rattle.hart.specs.Harts.{reg}
-use Rattle.layout.specs.Laid.{Laid}
-use Rattle.layout.specs.Points.{Code, read}
+use Rattle.layout.specs.Laid.{Laid, IsLaid}
+use Rattle.layout.specs.Points.{Code, read, in_range}
 use Rattle.machine.specs.Harts.{has_ended}
 use Rattle.machine.specs.States.{State}
-use Rattle.region.specs.Free.{range, given}
+use Rattle.patcher.specs.Patched.{LieApart}
+use Rattle.region.specs.Free.{Rises, is_free, range, given}
 use Rattle.retire.specs.References.{jump_of, Refers}
 use Rattle.sim_laws.specs.Changes.{IsPointer}
-use Rattle.world.specs.Worlds.{Replaced}
+use Rattle.world.specs.Worlds.{Replaced, covers}
 
 -- ---- what refers to layouts from outside
--- the harts that go on
-abbrev pub going : List Hart → List Hart
-going harts = filter (λ h. not (has_ended h.status)) harts
+-- of a hart that goes on its pc, and the numbers of the links in its registers; x0 holds none
+abbrev pub pc_of : Hart → List ℕ
+pc_of h = if has_ended h.status then [] else h.pc ∷ []
 
-abbrev pub pcs_of : List Hart → List ℕ
-pcs_of harts = map (λ h. h.pc) (going harts)
-
--- the numbers of the links in registers; x0 holds none
 abbrev pub link_number : Value → Option ℕ
 link_number v = if is_link v.tag then Some v.number else None
 
 abbrev pub register_links : Hart → List ℕ
-register_links h = filter_map (λ k. link_number (reg h.regs k)) (range_with_len 0 32)
+register_links h = if has_ended h.status then [] else filter_map link_number (drop 1 h.regs)
 
--- the numbers of all links, in registers of harts that go on and in memory
+abbrev pub pcs_of : List Hart → List ℕ
+pcs_of harts = flat_map pc_of harts
+
+-- the numbers of all links, in registers and in memory
 abbrev pub links_held : State → List ℕ
-links_held s = flat_map register_links (going s.harts) ++ map (λ (l : ℕ × ℕ). l.1) (links_of s.memory)
+links_held s = flat_map register_links s.harts ++ map (λ (l : ℕ × ℕ). l.1) (links_of s.memory)
 
 -- where the sites and pairs of text go, as far as they are JALs
 abbrev pub text_aim : List TextRange → ℕ → Aim → Option ℕ
@@ -51,7 +50,7 @@ abbrev pub text_aims : Picture → List TextRange → List ℕ
 text_aims p text = filter_map (text_aim text 0) p.sites ++ filter_map (text_aim text 4) p.pairs
 
 abbrev pub held_by : Replaced → List ℕ
-held_by w = (pcs_of w.machine.harts ++ links_held w.machine) ++ text_aims w.image w.text
+held_by w = pcs_of w.machine.harts ++ links_held w.machine ++ text_aims w.image w.text
 
 -- ---- what is given up
 -- Exactly these positions, ascending, are those of layouts that nothing refers to.
@@ -62,7 +61,7 @@ pub record AreUnreferenced (lives : List Laid) (held : List ℕ) (gone : List �
 -- a list without its elements at these positions, which ascend
 abbrev pub without : {A : Type 0} → List ℕ → List A → List A
 without [] xs = xs
-without (k ∷ ks) xs = take k (without ks xs) ++ drop (k + 1) (without ks xs)
+without (k ∷ ks) xs = remove (without ks xs) k
 
 abbrev pub range_of : Laid → Range
 range_of l = range l.base (l.base + 4 * length l.words)
@@ -76,6 +75,16 @@ given_back (Some l) free = given (range_of l) free
 abbrev pub freed : List ℕ → List Laid → List Range → List Range
 freed [] lives free = free
 freed (k ∷ ks) lives free = given_back (slice_get lives k) (freed ks lives free)
+
+-- layouts of a region, each with words, apart from one another; and the free ranges, which are exactly the rest
+pub record AreSpread (r : Range) (lives : List Laid) (free : List Range) : Type 0 where
+  pub laid : All IsLaid lives
+  pub some : All (λ l. 0 < length l.words) lives
+  pub within : All (λ l. (r.from ≤ l.base) × (l.base + 4 * length l.words ≤ r.to)) lives
+  pub apart : AllPairs LieApart lives
+  pub rises : Rises r.from r.to free
+  pub whole : All (λ r. r.from % 4 ≡ 0) free
+  pub rest : (a : ℕ) → is_free free a ≡ (in_range r a && not (list_any (covers a) lives))
 
 -- The layouts that nothing refers to are given up: n of them. Their ranges are free.
 pub record IsRetired (w v : Replaced) (n : ℕ) : Type 0 where

@@ -82,14 +82,15 @@ abbrev pub IsRun : List Atom → List ℕ → Replaced → Replaced → Type 0
 IsRun [] hs w v = (hs ≡ []) × (v ≡ w)
 IsRun (a ∷ more) hs w v = (u : Replaced) × (later : List ℕ) × Makes a w u × (hs ≡ harts_of a w ++ later) × IsRun more later u v
 
--- for each hart of a list one real step
-abbrev pub stretch : List ℕ → List Atom
-stretch [] = []
-stretch (h ∷ hs) = a_real_step h ∷ stretch hs
-
 -- for each hart of a list one real step, with replacements and retirements put in at any places
 pub data IsStretched : List ℕ → List Atom → Type 0 where
   no_more : IsStretched [] []
   real : {hs : List ℕ} {atoms : List Atom} → (h : ℕ) → IsStretched hs atoms → IsStretched (h ∷ hs) (a_real_step h ∷ atoms)
   replacing : {hs : List ℕ} {atoms : List Atom} → (plan : List Moved) → IsStretched hs atoms → IsStretched hs (a_replacement plan ∷ atoms)
   retiring : {hs : List ℕ} {atoms : List Atom} → IsStretched hs atoms → IsStretched hs (a_retirement ∷ atoms)
+
+-- the harts of real steps are those of a list, in order and each of them as long as the run goes on
+pub record AreHartsOf (hs gs : List ℕ) (has_ended : Bool) : Type 0 where
+  pub left : List ℕ
+  pub split : hs ≡ gs ++ left
+  pub all : has_ended ≡ false → left ≡ []

@@ -1,12 +1,14 @@
 //! A machine whose code is moved while it runs.
 //!
 //! `specs/Worlds.antt` says what it is and keeps, what a step makes of it, and when it stands for a state of the original machine;
-//! `specs/Replacing.antt` what a replacement makes of it, and why one is refused; `specs/Runs.antt` what runs are, and which steps of
+//! `specs/Replacing.antt` what a replacement makes of it, and why one is refused; `specs/Retiring.antt` what a retirement does;
+//! `specs/Runs.antt` what runs are, and which steps of
 //! the original machine they make.
 #![tactic(auto)]
 
 mod code;
 pub mod counts;
+mod giving_up;
 pub mod laws;
 mod live;
 mod place;

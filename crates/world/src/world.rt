@@ -1,6 +1,6 @@
 //! The machine whose code is moved, and its step.
 
-ghost use Rattle.std.specs.Prelude.{◌≡◌, ◌≢◌, ◌<◌, ◌↔◌, if◌then◌else◌, ℕ, [], length, replicate, true, None, IfOk, IfErr, OnOk, OnErr, is_some};
+ghost use Rattle.std.specs.Prelude.{◌≡◌, ◌≢◌, ◌+◌, ◌<◌, ◌≤◌, ◌↔◌, if◌then◌else◌, ℕ, [], length, replicate, true, None, IfOk, IfErr, OnOk, OnErr, is_some};
 ghost use Rattle.guest_sys.specs.Calls.{output};
 ghost use Rattle.guest_sys.specs.State.{IsOrderly};
 ghost use Rattle.machine.specs.Harts.{is_live, hart_in};
@@ -9,13 +9,15 @@ ghost use Rattle.machine.specs.States.{State};
 ghost use Rattle.machine.specs.Steps.{original_step, original_run};
 ghost use Rattle.plans.specs.Given.{plan_fault};
 ghost use Rattle.sim_laws.specs.Steps.{is_layout, original_after};
-ghost use Rattle.world.specs.Worlds.{IsSound, Related, started, kind_of, step_of};
+ghost use Rattle.world.specs.Worlds.{IsSound, Related, code_of, started, kind_of, step_of, more};
 ghost use Rattle.world.specs.Runs.{moved, IsMoved, real_step_of, real_kind_of, real_steps_of};
 ghost use Rattle.world.specs.Replacing.{Refuses, IsPlacement, IsReplaced, refused_as, RefusedBy, Attempts};
+ghost use Rattle.world.specs.Retiring.{held_by, AreUnreferenced, without, freed, RetiresAs, LeadsToCode};
 ghost use Rattle.world.specs.Told.{retired_in, facts_of};
 
 use crate::code::{is_layout, is_over, kind_in, other_step_in, step_in};
 use crate::counts::{Counts, more};
+use crate::giving_up::{give_up, links_held, pcs_of, text_aims};
 use crate::live::{add, aim};
 use crate::place::{Placement, is_no_memory, place};
 use crate::told::{changed_in, hart_facts, layout_facts, slots_in};
@@ -29,6 +31,7 @@ use oc_base::items::Items;
 use patcher::text::TextNow;
 use plans::plan::Plan;
 use region::space::Region;
+use retire::unreferenced::unreferenced;
 use sched_log::facts::{Facts, Refusal, Refused};
 use sim_laws::stepped::Stepped;
 use std::alloc::Global;
@@ -331,6 +334,8 @@ impl World {
         ensures err { OnErr result (self.new ≡ self.old) }
         ensures over { IfOk result (λ kind. (kind ≡ Stepped.Over) ↔ (is_some self.old.machine.outcome ≡ true)) }
         ensures real { IfOk result (λ kind. kind ≢ Stepped.Layout) }
+        ensures one { IfOk result (λ kind. kind ≡ Stepped.Real → self.new.counts.real ≡ more self.old.counts.real) }
+        ensures two { self.new.counts.layout ≤ self.old.counts.layout + 2 }
         ensures follows { OnOk result ((o : State) → Related self.old o → Related self.new (original_step self.old.image h o)) }
     {
         self.kept();
@@ -457,6 +462,62 @@ impl World {
         let result = self.make_replace(plan);
         self.kept();
         result
+    }
+
+    /// The positions of the layouts that nothing refers to.
+    fn unreferenced(&self) -> Result<Vec<u32>, NoMemory>
+        ensures { IfOk result (λ v. AreUnreferenced self.now.lives (held_by self.now) v.items) }
+    {
+        self.kept();
+        let pcs = pcs_of(self.alloc, &self.machine)?;
+        let links = links_held(self.alloc, &self.machine)?;
+        let aims = text_aims(self.alloc, &self.image, &self.text)?;
+        unreferenced(self.alloc, &self.lives, &pcs, &links, &aims)
+    }
+
+    /// Gives up these layouts.
+    fn give_up(&mut self, gone: &[u32]) -> Result<(), NoMemory>
+        requires { AreUnreferenced self.old.lives (held_by self.old) gone.now }
+        ensures ok { OnOk result (self.new ≡ record self.old {
+            lives = without gone.now self.old.lives;
+            numbers = without gone.now self.old.numbers;
+            free = freed gone.now self.old.lives self.old.free;
+        }) }
+        ensures err { OnErr result (self.new ≡ self.old) }
+    {
+        self.kept();
+        self.region.reserve(gone.len())?;
+        give_up(
+            &mut self.lives,
+            &mut self.numbers,
+            &mut self.region,
+            gone,
+        );
+        Ok(())
+    }
+
+    fn make_retire(&mut self) -> Result<u32, NoMemory>
+        ensures { RetiresAs self.old (is_some self.old.machine.outcome) result self.new }
+    {
+        if self.outcome().is_some() {
+            return Ok(0);
+        }
+        let gone = self.unreferenced()?;
+        self.give_up(&gone)?;
+        Ok(gone.len() as u32)
+    }
+
+    /// Gives up exactly the layouts that nothing refers to, and says how many. Their ranges are free then. Out of memory, nothing is
+    /// changed. After the run's end nothing is changed, and the answer is 0.
+    ///
+    /// Whatever state of the original machine the world stands for, it goes on to stand for it, and each live code pointer leads to code
+    /// then: none leads into a layout that was given up.
+    pub fn retire(&mut self) -> Result<u32, NoMemory>
+        ensures is { RetiresAs self.old (is_some self.old.machine.outcome) result self.new }
+        ensures related { (o : State) → Related self.old o → Related self.new o }
+        ensures leads { (o : State) → Related self.old o → LeadsToCode (code_of self.new) self.new.machine }
+    {
+        self.make_retire()
     }
 
     /// The counts, what was refused, and what stands now.
