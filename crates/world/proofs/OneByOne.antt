@@ -28,34 +28,39 @@ module _ (r : Range) (lives : List Laid) (free : List Range) where
           subst (λ (o : Option Laid). AreSpread r (without (k ∷ ks) lives) (given_back o (freed ks lives free))) (sym e)
           (spread_again r (without ks lives) (freed ks lives free) k l (read_before k ks lives l c w e) rest)
 
-  -- before the one at place i of the list is given up those behind it are
-  module _ (gone : List ℕ) (c : Climbs gone) (w : All (λ k. k < length lives) gone) (i d : ℕ) (lt : i < length gone) where
-    next : drop i gone ≡ get_or gone i d ∷ drop (suc i) gone
-    next = drop-cons gone i d lt
+  -- those from place i of the list on have been given up, and the one before them comes next
+  module _ (gone : List ℕ) (climbing : Climbs gone) (short : All (λ k. k < length lives) gone) (i d : ℕ) (some : 0 < i) (within : i ≤ length gone) where
+    next : drop (i - 1) gone ≡ get_or gone (i - 1) d ∷ drop i gone
+    next =
+        let here : suc (i - 1) ≡ i = omega (arith, some) in
+        drop-cons gone (i - 1) d (omega (arith, some, within)) ∙ ap (λ m. get_or gone (i - 1) d ∷ drop m gone) here
 
-    climbing : Climbs (get_or gone i d ∷ drop (suc i) gone)
-    climbing = subst Climbs next (climbs_drop i gone c)
+    all_climb : Climbs (get_or gone (i - 1) d ∷ drop i gone)
+    all_climb = subst Climbs next (climbs_drop (i - 1) gone climbing)
 
-    within : All (λ k. k < length lives) (get_or gone i d ∷ drop (suc i) gone)
-    within = subst (All (λ k. k < length lives)) next (All-drop (λ k. k < length lives) i gone w)
+    all_short : All (λ k. k < length lives) (get_or gone (i - 1) d ∷ drop i gone)
+    all_short = subst (All (λ k. k < length lives)) next (All-drop (λ k. k < length lives) (i - 1) gone short)
 
-    pub step_there : get_or gone i d < length (without (drop (suc i) gone) lives)
-    step_there = is_there (get_or gone i d) (drop (suc i) gone) lives climbing within
+    rest_short : All (λ k. k < length lives) (drop i gone)
+    rest_short = All-tail (λ k. k < length lives) (get_or gone (i - 1) d) (drop i gone) all_short
 
-    pub step_spread : AreSpread r lives free → AreSpread r (without (drop (suc i) gone) lives) (freed (drop (suc i) gone) lives free)
-    step_spread s = spread_left (drop (suc i) gone) climbing.1 (All-tail (λ k. k < length lives) (get_or gone i d) (drop (suc i) gone) within) s
+    pub next_there : get_or gone (i - 1) d < length (without (drop i gone) lives)
+    next_there = is_there (get_or gone (i - 1) d) (drop i gone) lives all_climb all_short
 
-    pub step_length : {Y : Type 0} (ys : List Y) → length ys ≡ length lives → length (without (drop (suc i) gone) ys) ≡ length (without (drop (suc i) gone) lives)
-    step_length ys e = sym (lengths_without (drop (suc i) gone) lives ys climbing.1 (All-tail (λ k. k < length lives) (get_or gone i d) (drop (suc i) gone) within) (sym e))
+    pub next_spread : AreSpread r lives free → AreSpread r (without (drop i gone) lives) (freed (drop i gone) lives free)
+    next_spread s = spread_left (drop i gone) all_climb.1 rest_short s
 
-    pub step_without : {Y : Type 0} (ys : List Y) → remove (without (drop (suc i) gone) ys) (get_or gone i d) ≡ without (drop i gone) ys
-    step_without ys = ap (λ (ks : List ℕ). without ks ys) (sym next)
+    pub next_length : {Y : Type 0} (ys : List Y) → length ys ≡ length lives → length (without (drop i gone) ys) ≡ length (without (drop i gone) lives)
+    next_length ys e = sym (lengths_without (drop i gone) lives ys all_climb.1 rest_short (sym e))
 
-    pub step_freed : given_back (slice_get (without (drop (suc i) gone) lives) (get_or gone i d)) (freed (drop (suc i) gone) lives free) ≡ freed (drop i gone) lives free
-    step_freed =
-        ap (λ (o : Option Laid). given_back o (freed (drop (suc i) gone) lives free)) (same_read (slice_get lives (get_or gone i d)) refl)
+    pub next_without : {Y : Type 0} (ys : List Y) → remove (without (drop i gone) ys) (get_or gone (i - 1) d) ≡ without (drop (i - 1) gone) ys
+    next_without ys = ap (λ (ks : List ℕ). without ks ys) (sym next)
+
+    pub next_freed : given_back (slice_get (without (drop i gone) lives) (get_or gone (i - 1) d)) (freed (drop i gone) lives free) ≡ freed (drop (i - 1) gone) lives free
+    next_freed =
+        ap (λ (o : Option Laid). given_back o (freed (drop i gone) lives free)) (same_read (slice_get lives (get_or gone (i - 1) d)) refl)
         ∙ ap (λ (ks : List ℕ). freed ks lives free) (sym next)
       where
-        same_read : (o : Option Laid) → slice_get lives (get_or gone i d) ≡ o → slice_get (without (drop (suc i) gone) lives) (get_or gone i d) ≡ slice_get lives (get_or gone i d)
-        same_read None e = absurd (none_there lives (get_or gone i d) (All-head (λ k. k < length lives) (get_or gone i d) (drop (suc i) gone) within) e)
-        same_read (Some l) e = read_before (get_or gone i d) (drop (suc i) gone) lives l climbing within e ∙ sym e
+        same_read : (o : Option Laid) → slice_get lives (get_or gone (i - 1) d) ≡ o → slice_get (without (drop i gone) lives) (get_or gone (i - 1) d) ≡ slice_get lives (get_or gone (i - 1) d)
+        same_read None e = absurd (none_there lives (get_or gone (i - 1) d) (All-head (λ k. k < length lives) (get_or gone (i - 1) d) (drop i gone) all_short) e)
+        same_read (Some l) e = read_before (get_or gone (i - 1) d) (drop i gone) lives l all_climb all_short e ∙ sym e

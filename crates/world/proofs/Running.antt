@@ -180,15 +180,12 @@ stretched_harts hs gs atoms w v (replacing {atoms = rest} plan t) m s =
 stretched_harts hs gs atoms w v (retiring {atoms = rest} t) m s =
     subst (λ (xs : List ℕ). AreHartsOf hs xs (is_some v.machine.outcome)) (sym m.3) (stretched_harts hs m.1 rest m.0 v t m.4 (made_sound a_retirement w m.0 m.2 s))
 stretched_harts hs gs atoms w v (real {hs = ks} {atoms = rest} h t) m s =
-    by_kind (real_kind_of h w) refl
+    by_kind (real_kind_of h w) refl (stretched_harts ks m.1 rest m.0 v t m.4 (made_sound (a_real_step h) w m.0 m.2 s))
   where
-    later : AreHartsOf ks m.1 (is_some v.machine.outcome)
-    later = stretched_harts ks m.1 rest m.0 v t m.4 (made_sound (a_real_step h) w m.0 m.2 s)
-
-    by_kind : (k : Stepped) → real_kind_of h w ≡ k → AreHartsOf (h ∷ ks) gs (is_some v.machine.outcome)
-    by_kind Real e = one_more h ks gs m.1 (is_some v.machine.outcome) (m.3 ∙ ap (λ k. of_real k h ++ m.1) e) later
-    by_kind Layout e = absurd (never_layout w h (real_kind_of h w) s refl e)
-    by_kind Over e =
+    by_kind : (k : Stepped) → real_kind_of h w ≡ k → AreHartsOf ks m.1 (is_some v.machine.outcome) → AreHartsOf (h ∷ ks) gs (is_some v.machine.outcome)
+    by_kind Real e later = one_more h ks gs m.1 (is_some v.machine.outcome) (m.3 ∙ ap (λ k. of_real k h ++ m.1) e) later
+    by_kind Layout e later = absurd (never_layout w h (real_kind_of h w) s refl e)
+    by_kind Over e later =
         let ended = (real_over w h (real_kind_of h w) s refl).0 e in
         let still = run_ended (a_real_step h ∷ rest) gs w v m s ended in
         all_left (h ∷ ks) gs (is_some v.machine.outcome) still.0 (ap (λ (x : Replaced). is_some x.machine.outcome) still.1 ∙ ended)

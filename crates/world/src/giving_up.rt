@@ -1,6 +1,6 @@
 //! What refers to layouts from outside, and layouts that are given up.
 
-ghost use Rattle.std.specs.Prelude.{◌≡◌, ◌+◌, ◌++◌, ◌<◌, ◌≤◌, ◌^◌, All, AllPairs, length, slice_get, IfOk, OnOk};
+ghost use Rattle.std.specs.Prelude.{◌≡◌, ◌+◌, ◌++◌, ◌<◌, ◌≤◌, ◌^◌, All, AllPairs, drop, length, slice_get, IfOk, OnOk};
 ghost use Rattle.std.specs.List.{filter_map, flat_map, remove};
 ghost use Rattle.image.specs.Texts.{word_at};
 ghost use Rattle.layout.specs.Points.{read};
@@ -64,12 +64,12 @@ fn link_number(value: &Value) -> Option<u64>
     }
 }
 
-/// Adds the numbers of those of these values that are links.
-fn add_numbers(found: &mut Vec<u64>, values: &[Value]) -> Result<(), NoMemory>
-    ensures { OnOk result (found.new.items ≡ found.old.items ++ filter_map link_number values.now) }
+/// Adds the numbers of those of these registers that are links. x0, the first, holds none.
+fn add_numbers(found: &mut Vec<u64>, regs: &[Value]) -> Result<(), NoMemory>
+    ensures { OnOk result (found.new.items ≡ found.old.items ++ filter_map link_number (drop 1 regs.now)) }
 {
-    for value in values {
-        if let Some(number) = link_number(value) {
+    for k in 1..regs.len() {
+        if let Some(number) = link_number(&regs[k]) {
             found.push(number)?;
         }
     }
@@ -81,7 +81,7 @@ fn add_register_links(found: &mut Vec<u64>, hart: &Hart) -> Result<(), NoMemory>
     ensures { OnOk result (found.new.items ≡ found.old.items ++ register_links hart.now) }
 {
     if !has_ended(hart) {
-        add_numbers(found, &hart.regs[1..])?;
+        add_numbers(found, &hart.regs)?;
     }
     Ok(())
 }
