@@ -186,3 +186,15 @@ pub climbs_drop : (i : ℕ) (ks : List ℕ) → Climbs ks → Climbs (drop i ks)
 climbs_drop zero ks c = c
 climbs_drop (suc i) [] c = tt
 climbs_drop (suc i) (k ∷ ks) c = climbs_drop i ks c.1
+
+-- positions below n are at most n
+room : (n low : ℕ) (ks : List ℕ) → Climbs ks → All (λ k. k < n) ks → low ≤ n → All (λ k. low ≤ k) ks → low + length ks ≤ n
+room n low [] c w le h = omega (arith, le)
+room n low (k ∷ ks) c w le h =
+    let one = All-head (λ k. low ≤ k) k ks h in
+    let below = All-head (λ k. k < n) k ks w in
+    let rest = room n (k + 1) ks c.1 (All-tail (λ k. k < n) k ks w) (omega (arith, below)) (λ i d lt. (let p = c.0 i d lt in omega (arith, p))) in
+    omega (arith, one, rest)
+
+pub at_most : (n : ℕ) (ks : List ℕ) → Climbs ks → All (λ k. k < n) ks → length ks ≤ n
+at_most n ks c w = let r = room n 0 ks c w (omega arith) (λ i d lt. omega arith) in omega (arith, r)

@@ -20,3 +20,4 @@ pub mod Retirement
 pub mod Spread
 pub mod RelatedAgain
 pub mod OneByOne
+pub mod Counting

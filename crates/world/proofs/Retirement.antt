@@ -1,5 +1,5 @@
 -- A world after a retirement: what its code keeps, and what it stands for.
-use Rattle.std.proofs.Common.{◌≡◌, ℕ, zero, suc, ◌+◌, ◌-◌, ◌*◌, ◌%◌, ◌<◌, ◌≤◌, Bool, true, false, List, [], ◌∷◌, ◌++◌, length, get_or, refl, sym, ap, ◌∙◌, subst, inl, inr, arith}
+use Rattle.std.proofs.Common.{◌≡◌, ℕ, zero, suc, ◌+◌, ◌-◌, ◌*◌, ◌^◌, ◌<◌, ◌≤◌, Bool, true, false, List, [], ◌∷◌, ◌++◌, length, get_or, refl, sym, ap, ◌∙◌, subst, inl, inr, arith}
 use Rattle.std.specs.Prelude.{ℤ, ◌⊎◌, ◌&&◌, nat_le, nat_lt, All, AllPairs, Contains, Option, Some, None, Result, Ok, Err, OnOk, slice_get}
 use Rattle.std.proofs.lemmas.Bool.{and_parts, leb-true, ltb-true}
 use Rattle.std.proofs.lemmas.List.Elements.{All-head, All-tail, Contains-append_left, Contains-append_right}
@@ -23,7 +23,8 @@ use Rattle.sim_laws.proofs.GivingUp.{renders_on, pointers_on}
 use Rattle.sim_laws.proofs.Change.{kept_by_change}
 use Rattle.world.specs.Worlds.{Replaced, code_in, code_of, covers, IsSound, IsWorld, Related}
 use Rattle.world.specs.Retiring.{text_aims, pcs_of, links_held, held_by, AreUnreferenced, without, range_of, freed, given_back, AreSpread, IsRetired, RetiresAs, Retires, over, done, LeadsToCode}
-use Rattle.world.proofs.LeftOver.{Climbs, climbs, all_without, pairs_without, lengths_without, is_there, before_all}
+use Rattle.world.proofs.LeftOver.{climbs, all_without, lengths_without, at_most}
+use Rattle.world.proofs.Spread.{few}
 use Rattle.world.proofs.OneByOne.{spread_left}
 use Rattle.world.proofs.GivenUp.{gone_at, gives_up}
 use Rattle.world.proofs.Held.{pointer_held}
@@ -132,6 +133,20 @@ module _ (p : Picture) (text : List TextRange) (lives : List Laid) (numbers : Li
 -- ---- a world
 aims_held : (w : Replaced) (t : ℕ) → Contains (text_aims w.image w.text) t → Contains (held_by w) t
 aims_held w t c = Contains-append_right (pcs_of w.machine.harts ++ links_held w.machine) (text_aims w.image w.text) t c
+
+-- as the code has it: v, the view of the fields, is w
+pub gone_sound : (w v : Replaced) (gone : List ℕ) → v ≡ w → AreUnreferenced w.lives (held_by w) gone → IsWorld v → IsSound v.image v.text (without gone v.lives) (without gone v.numbers) (freed gone v.lives v.free)
+gone_sound w v gone e u s =
+    sound_left v.image v.text v.lives v.numbers v.free (held_by v) gone s (subst (λ (x : Replaced). AreUnreferenced x.lives (held_by x) gone) (sym e) u) (aims_held v)
+
+pub few_gone : (w : Replaced) (gone : List ℕ) → AreUnreferenced w.lives (held_by w) gone → IsWorld w → length gone < 2 ^ 32
+few_gone w gone u s =
+    let all = few w.image.region w.lives w.free (spread_of w.image w.text w.lives w.numbers w.free s) in
+    let most = at_most (length w.lives) gone (climbs gone u.rises) (within_all w.lives (held_by w) gone u) in
+    omega (arith, all, most)
+
+pub same_unreferenced : (lives ls : List Laid) (held hs gone : List ℕ) → ls ≡ lives → hs ≡ held → AreUnreferenced ls hs gone → AreUnreferenced lives held gone
+same_unreferenced lives ls held hs gone e f u = subst (λ (x : List Laid). AreUnreferenced x held gone) e (subst (λ (x : List ℕ). AreUnreferenced ls x gone) f u)
 
 pub retired_sound : (w v : Replaced) (n : ℕ) → IsRetired w v n → IsWorld w → IsWorld v
 retired_sound w v n h s = subst IsWorld (sym h.is) (sound_left w.image w.text w.lives w.numbers w.free (held_by w) h.gone s h.are (aims_held w))

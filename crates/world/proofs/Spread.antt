@@ -1,12 +1,15 @@
 -- A layout that is given up, and its range, which is free then.
-use Rattle.std.proofs.Common.{◌≡◌, ℕ, zero, suc, ◌+◌, ◌*◌, ◌%◌, ◌<◌, ◌≤◌, ◌==◌, Bool, true, false, not, List, [], ◌∷◌, length, get_or, refl, sym, ap, ◌∙◌, subst, inl, inr, arith}
+use Rattle.std.proofs.Common.{◌≡◌, ◌≢◌, ℕ, zero, suc, ◌+◌, ◌*◌, ◌%◌, ◌^◌, ◌<◌, ◌≤◌, ◌==◌, eqb, Bool, true, false, not, List, [], ◌∷◌, length, map, get_or, refl, sym, ap, ◌∙◌, subst, inl, inr, arith}
 use Rattle.std.specs.Prelude.{nat_le, nat_lt, ◌&&◌, ◌||◌, ◌⊎◌, ◌↔◌, All, AllPairs, Some, slice_get, if◌then◌else◌}
 use Rattle.std.specs.List.{list_any, remove, AllByRecursion}
-use Rattle.std.proofs.lemmas.Bool.{cases_lt, and_parts, leb-true, ltb-true, le-leb, lt-ltb}
+use Rattle.std.proofs.lemmas.Bool.{cases_lt, and_parts, leb-true, ltb-true, le-leb, lt-ltb, eqb-true, eq-eqb}
+use Rattle.std.proofs.lemmas.List.{length-map, get_or-map}
 use Rattle.std.proofs.lemmas.List.Edits.{length-remove, get_or-remove_below, get_or-remove_above}
 use Rattle.std.proofs.lemmas.List.Elements.{All-take, All-drop, All-append, recursion_from_All, All-from_recursion}
-use Rattle.std.proofs.lemmas.List.Folds.{list_any_none}
+use Rattle.std.proofs.lemmas.List.Folds.{list_any_none, Any-from_list_any}
 use Rattle.std.proofs.lemmas.List.Quantifiers.{all_pairs_remove}
+use Rattle.std.proofs.lemmas.Map.Made.{IsDistinct-from_AllPairs}
+use Rattle.std.proofs.lemmas.Map.Steps.{length-le_from_distinct_below}
 use Rattle.std.proofs.lemmas.Option.{slice_get_within, get_or_from_slice_get}
 use Rattle.oc_base.specs.declared.range.Range.{Range}
 use Rattle.layout.specs.Laid.{Laid, IsLaid}
@@ -178,3 +181,41 @@ module _ (r : Range) (lives : List Laid) (free : List Range) (k : ℕ) (l : Laid
     whole = given_whole (range_of l) free (of_it IsLaid s.laid).whole s.whole;
     rest = rest_again;
   }
+
+-- ---- how many there can be
+abbrev base_of : Laid → ℕ
+base_of l = l.base
+
+-- each has a base of its own
+bases_differ : (r : Range) (lives : List Laid) (free : List Range) (d : Laid) → AreSpread r lives free → AllPairs (λ x y. x ≢ y) (map base_of lives)
+bases_differ r lives free d s i j e lt within same =
+    let size = length-map lives base_of in
+    let there : j < length lives = omega (arith, within, size) in
+    let first : get_or (map base_of lives) i e ≡ (get_or lives i d).base = get_or-map base_of lives i d e (omega (arith, lt, there)) in
+    let second : get_or (map base_of lives) j e ≡ (get_or lives j d).base = get_or-map base_of lives j d e there in
+    clash (get_or lives i d) (get_or lives j d) (s.apart i j d lt there) (s.some i d (omega (arith, lt, there))) (s.some j d there) (sym first ∙ same ∙ second)
+  where
+    clash : (l m : Laid) → LieApart l m → 0 < length l.words → 0 < length m.words → l.base ≡ m.base → ⊥
+    clash l m (inl h) p q e = omega (arith, h, p, e)
+    clash l m (inr h) p q e = omega (arith, h, q, e)
+
+-- below the end of the guest's addresses
+bases_low : (r : Range) (lives : List Laid) (free : List Range) (d : Laid) → AreSpread r lives free → (q : ℕ) → list_any (eqb q) (map base_of lives) ≡ true → q < 0x08000000
+bases_low r lives free d s q e =
+    let a = Any-from_list_any (eqb q) (map base_of lives) e in
+    let lt = a.2 in
+    let size = length-map lives base_of in
+    let there : a.0 < length lives = omega (arith, lt, size) in
+    let same : get_or (map base_of lives) a.0 a.1 ≡ (get_or lives a.0 d).base = get_or-map base_of lives a.0 d a.1 there in
+    let is : q ≡ (get_or lives a.0 d).base = eqb-true q a.1 a.4 ∙ sym a.3 ∙ same in
+    let high = (s.laid a.0 d there).high in
+    let some = s.some a.0 d there in
+    omega (arith, is, high, some)
+
+pub few : (r : Range) (lives : List Laid) (free : List Range) → AreSpread r lives free → length lives < 2 ^ 32
+few r [] free s = omega arith
+few r (l ∷ ls) free s =
+    let size = length-map (l ∷ ls) base_of in
+    let most = length-le_from_distinct_below (map base_of (l ∷ ls)) 0x08000000
+        (IsDistinct-from_AllPairs (λ a b. (eqb-true a b, eq-eqb a b)) (map base_of (l ∷ ls)) (bases_differ r (l ∷ ls) free l s)) (bases_low r (l ∷ ls) free l s) in
+    omega (arith, size, most)

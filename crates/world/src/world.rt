@@ -1,6 +1,6 @@
 //! The machine whose code is moved, and its step.
 
-ghost use Rattle.std.specs.Prelude.{◌≡◌, ◌≢◌, ◌+◌, ◌<◌, ◌≤◌, ◌↔◌, if◌then◌else◌, ℕ, [], length, replicate, true, None, IfOk, IfErr, OnOk, OnErr, is_some};
+ghost use Rattle.std.specs.Prelude.{◌≡◌, ◌≢◌, ◌+◌, ◌^◌, ◌<◌, ◌≤◌, ◌↔◌, if◌then◌else◌, ℕ, [], length, replicate, true, None, IfOk, IfErr, OnOk, OnErr, is_some};
 ghost use Rattle.guest_sys.specs.Calls.{output};
 ghost use Rattle.guest_sys.specs.State.{IsOrderly};
 ghost use Rattle.machine.specs.Harts.{is_live, hart_in};
@@ -466,13 +466,15 @@ impl World {
 
     /// The positions of the layouts that nothing refers to.
     fn unreferenced(&self) -> Result<Vec<u32>, NoMemory>
-        ensures { IfOk result (λ v. AreUnreferenced self.now.lives (held_by self.now) v.items) }
+        ensures are { IfOk result (λ v. AreUnreferenced self.now.lives (held_by self.now) v.items) }
+        ensures few { IfOk result (λ v. length v.items < 2 ^ 32) }
     {
         self.kept();
         let pcs = pcs_of(self.alloc, &self.machine)?;
         let links = links_held(self.alloc, &self.machine)?;
         let aims = text_aims(self.alloc, &self.image, &self.text)?;
-        unreferenced(self.alloc, &self.lives, &pcs, &links, &aims)
+        let gone = unreferenced(self.alloc, &self.lives, &pcs, &links, &aims)?;
+        Ok(gone)
     }
 
     /// Gives up these layouts.

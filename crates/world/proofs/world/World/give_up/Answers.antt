@@ -1,0 +1,31 @@
+use Rattle.std.proofs.Common.{ℕ, ◌<◌, List, length, sym, ap, ◌∙◌, subst}
+use Rattle.std.specs.Prelude.{All}
+use Rattle.oc_base.specs.declared.range.Range.{Range}
+use Rattle.layout.specs.Laid.{Laid}
+use Rattle.region.specs.Space.{Space}
+use Rattle.world.specs.Worlds.{Replaced, IsSound}
+use Rattle.world.specs.Retiring.{AreSpread, held_by, freed}
+use Rattle.world.proofs.Referring.{within_all}
+use Rattle.world.proofs.Retirement.{spread_of, gone_sound}
+use Rattle.world.proofs.world.World.give_up.Goals as goal
+
+pub give_up-requires-clause-within : goal.give_up-requires-clause-within
+give_up-requires-clause-within c =
+    let w = c.args.self.now in
+    subst (λ (x : Replaced). All (λ k. k < length x.lives) c.args.gone.now) (sym c.self.view_is) (within_all w.lives (held_by w) c.args.gone.now c.requires)
+
+pub give_up-requires-clause-spread : goal.give_up-requires-clause-spread
+give_up-requires-clause-spread c =
+    let i = c.self.inside in
+    let s = spread_of i.image i.text i.lives.items i.numbers.items i.region.free c.self.invariant.1 in
+    let all = ap (λ (s : Space). s.all) c.in_ok-reserve.ensures.ok ∙ c.self.invariant.0 in
+    let free = ap (λ (s : Space). s.free) c.in_ok-reserve.ensures.ok in
+    rw (all, free) s
+
+pub invariant_of-self-2 : goal.invariant_of-self-2
+invariant_of-self-2 c =
+    let i = c.self.inside in
+    let free = c.give_up.ensures.free ∙ ap (λ (s : Space). freed c.args.gone.now i.lives.items s.free) c.in_ok-reserve.ensures.ok in (
+      c.give_up.ensures.all ∙ ap (λ (s : Space). s.all) c.in_ok-reserve.ensures.ok ∙ c.self.invariant.0,
+      rw (c.give_up.ensures.lives, c.give_up.ensures.numbers, free) (gone_sound c.args.self.now _ c.args.gone.now c.self.view_is c.requires c.self.invariant.1),
+    )
