@@ -13,10 +13,12 @@ use Rattle.sim_laws.specs.Steps.{original_after, is_layout}
 use Rattle.sim_laws.proofs.Orderly.{replaced_orderly}
 use Rattle.world.specs.Worlds.{Replaced, IsWorld, code_of, Related, kind_of, step_of}
 use Rattle.world.specs.Replacing.{Replaces, over, done, refused}
-use Rattle.world.specs.Runs.{until_real, real_kind_of, Atom, a_step, a_real_step, a_replacement, Makes, of_real, harts_of, IsRun, stretch}
+use Rattle.world.specs.Retiring.{Retires}
+use Rattle.world.specs.Retiring as retiring
+use Rattle.world.specs.Runs.{until_real, real_kind_of, Atom, a_step, a_real_step, a_replacement, a_retirement, Makes, of_real, harts_of, IsRun, stretch}
 use Rattle.world.proofs.Following.{step_follows, until_follows, real_follows}
-use Rattle.world.proofs.Replacement.{replaced_related, refused_related, kept_related}
-use Rattle.world.proofs.SoundAgain.{replaces_sound}
+use Rattle.world.proofs.RelatedAgain.{replaces_sound, replaces_related}
+use Rattle.world.proofs.RetireHoles.{retires_sound, retires_related}
 use Rattle.world.proofs.Stepping.{until_orderly, until_image}
 
 run_append : (p : Picture) (xs ys : List ℕ) (o : State) → original_run p (xs ++ ys) o ≡ original_run p ys (original_run p xs o)
@@ -30,21 +32,21 @@ by_real v Layout p h o r = r
 by_real v Over p h o r = r
 
 -- ---- one after another
-pub replaces_related : (plan : List Moved) (w v : Replaced) (o : State) → plan_fault w.image plan ≡ None → w.lives ≡ [] → Replaces plan w v → Related w o → Related v o
-replaces_related plan w v o given none (over b f) r = kept_related w v f o r
-replaces_related plan w v o given none (done b h) r = replaced_related plan w v none (replaces_sound plan w v given none (done b h) r.sound) h o r
-replaces_related plan w v o given none (refused why n b h f) r = refused_related w v why f o r
-
 made_follows : (a : Atom) (w v : Replaced) (o : State) → IsOrderly w.machine.system → Makes a w v → Related w o → Related v (original_run w.image (harts_of a w) o)
 made_follows (a_step h) w v o q m r = by_real v (kind_of h w) w.image h o (step_follows w v h (kind_of h w) q refl m o r)
 made_follows (a_real_step h) w v o q m r =
     by_real v (real_kind_of h w) w.image h o (subst (λ (x : Replaced). Related x (original_after (real_kind_of h w) w.image h o)) (sym m) (until_follows 3 h w o q r))
-made_follows (a_replacement plan) w v o q m r = replaces_related plan w v o m.0 m.1 m.2 r
+made_follows (a_replacement plan) w v o q m r = replaces_related plan w v o m.0 m.1 r
+made_follows a_retirement w v o q m r = retires_related w v o m r
 
 replaces_orderly : (plan : List Moved) (w v : Replaced) → Replaces plan w v → IsOrderly w.machine.system → IsOrderly v.machine.system
 replaces_orderly plan w v (over b f) q = subst (λ (x : Replaced). IsOrderly x.machine.system) (sym f) q
 replaces_orderly plan w v (done b h) q = subst (λ (x : Replaced). IsOrderly x.machine.system) (sym h.is) q
 replaces_orderly plan w v (refused why n b h f) q = subst (λ (x : Replaced). IsOrderly x.machine.system) (sym f) q
+
+retires_orderly : (w v : Replaced) → Retires w v → IsOrderly w.machine.system → IsOrderly v.machine.system
+retires_orderly w v (retiring.over b f) q = subst (λ (x : Replaced). IsOrderly x.machine.system) (sym f) q
+retires_orderly w v (retiring.done n b h) q = subst (λ (x : Replaced). IsOrderly x.machine.system) (sym h.is) q
 
 step_orderly : (h : ℕ) (w : Replaced) → IsOrderly w.machine.system → IsOrderly (step_of h w).machine.system
 unfolding step_of
@@ -53,12 +55,17 @@ step_orderly h w q = replaced_orderly w.image (code_of w) h w.machine q
 made_orderly : (a : Atom) (w v : Replaced) → Makes a w v → IsOrderly w.machine.system → IsOrderly v.machine.system
 made_orderly (a_step h) w v m q = subst (λ (x : Replaced). IsOrderly x.machine.system) (sym m) (step_orderly h w q)
 made_orderly (a_real_step h) w v m q = subst (λ (x : Replaced). IsOrderly x.machine.system) (sym m) (until_orderly 3 h w q)
-made_orderly (a_replacement plan) w v m q = replaces_orderly plan w v m.2 q
+made_orderly (a_replacement plan) w v m q = replaces_orderly plan w v m.1 q
+made_orderly a_retirement w v m q = retires_orderly w v m q
 
 replaces_image : (plan : List Moved) (w v : Replaced) → Replaces plan w v → v.image ≡ w.image
 replaces_image plan w v (over b f) = ap (λ (x : Replaced). x.image) f
 replaces_image plan w v (done b h) = ap (λ (x : Replaced). x.image) h.is
 replaces_image plan w v (refused why n b h f) = ap (λ (x : Replaced). x.image) f
+
+retires_image : (w v : Replaced) → Retires w v → v.image ≡ w.image
+retires_image w v (retiring.over b f) = ap (λ (x : Replaced). x.image) f
+retires_image w v (retiring.done n b h) = ap (λ (x : Replaced). x.image) h.is
 
 step_image : (h : ℕ) (w : Replaced) → (step_of h w).image ≡ w.image
 unfolding step_of
@@ -67,7 +74,8 @@ step_image h w = refl
 made_image : (a : Atom) (w v : Replaced) → Makes a w v → v.image ≡ w.image
 made_image (a_step h) w v m = ap (λ (x : Replaced). x.image) m ∙ step_image h w
 made_image (a_real_step h) w v m = ap (λ (x : Replaced). x.image) m ∙ until_image 3 h w
-made_image (a_replacement plan) w v m = replaces_image plan w v m.2
+made_image (a_replacement plan) w v m = replaces_image plan w v m.1
+made_image a_retirement w v m = retires_image w v m
 
 -- ---- each world keeps what it keeps
 step_sound : (h : ℕ) (w : Replaced) → IsWorld w → IsWorld (step_of h w)
@@ -86,7 +94,8 @@ until_sound (suc n) h w s = by_first (is_layout (kind_of h w)) (until_sound n h 
 made_sound : (a : Atom) (w v : Replaced) → Makes a w v → IsWorld w → IsWorld v
 made_sound (a_step h) w v m s = subst IsWorld (sym m) (step_sound h w s)
 made_sound (a_real_step h) w v m s = subst IsWorld (sym m) (until_sound 3 h w s)
-made_sound (a_replacement plan) w v m s = replaces_sound plan w v m.0 m.1 m.2 s
+made_sound (a_replacement plan) w v m s = replaces_sound plan w v m.0 m.1 s
+made_sound a_retirement w v m s = retires_sound w v m s
 
 pub run_sound : (atoms : List Atom) (hs : List ℕ) (w v : Replaced) → IsRun atoms hs w v → IsWorld w → IsWorld v
 run_sound [] hs w v m s = subst IsWorld (sym m.1) s

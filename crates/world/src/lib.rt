@@ -11,5 +11,6 @@ pub mod laws;
 mod live;
 mod place;
 mod points;
+mod slots;
 mod told;
 pub mod world;
