@@ -97,3 +97,15 @@ pub record Renders (c : Code) : Type 0 where
   pub hops : (a x : ℕ) → c.point a ≡ Some (Hop x) → HopRow c a x
   pub mids : (a x : ℕ) → c.point a ≡ Some (Mid x) → MidRow c a x
   pub reads : (a x : ℕ) → IsSome (c.home a) → c.point a ≡ Some (Start x) → IsSome (read c.text x)
+
+-- the word at a goes to a Start of s
+pub record GoesTo (c : Code) (a s : ℕ) : Type 0 where
+  pub rd : ℕ
+  pub aim : ℤ
+  pub word : read c.word a ≡ Some (Jal rd aim)
+  pub start : c.point (target a aim) ≡ Some (Start s)
+
+-- the word of each call is the original one, or goes to a Start of its function
+pub record CallsAim (c : Code) : Type 0 where
+  pub sites : (a x s : ℕ) → c.point a ≡ Some (Start x) → c.site x ≡ Some s → (c.word a ≡ c.text x) ⊎ GoesTo c a s
+  pub seconds : (a x s : ℕ) → c.point a ≡ Some (Start x) → c.second x ≡ Some s → (c.word a ≡ c.text x) ⊎ GoesTo c a s

@@ -15,16 +15,17 @@ use Rattle.layout.specs.declared.point.Point.{Point}
 use Rattle.layout.specs.declared.point.Point.TheVariants.{Start, Hop, Mid}
 use Rattle.layout.specs.Laid.{Laid, IsLaid, item_at, point_in}
 use Rattle.layout.specs.Points.{Code, StandsFor, in_range, read, site_of, second_of, start_of, Here, here_in, here_point, live_at, code_of}
-use Rattle.layout.specs.Rows.{MovedRow, StartRow, HopRow, MidRow, Renders}
+use Rattle.layout.specs.Rows.{MovedRow, StartRow, HopRow, MidRow, Renders, GoesTo, CallsAim}
 use Rattle.layout.specs.Alone.{alone, NamesCalls}
+use Rattle.layout.proofs.CallWords.{bound, IsJalr, site_is_jal, second_is_jalr}
 use Rattle.layout.proofs.Places.{item_here}
 use Rattle.layout.proofs.TextRows.{read_is, read_same}
 use Rattle.patcher.specs.declared.goal.Goal.{Goal}
 use Rattle.patcher.specs.declared.goal.Goal.TheVariants.{Jump, Same}
 use Rattle.patcher.specs.declared.patches.Patches.{Patches}
 use Rattle.patcher.specs.Goals.{link_of, is_start, start_in, moved_to, site_goal, second_by, goal_of, goal_at, IsMade}
-use Rattle.patcher.specs.Patched.{ArePatches, IsSet, IsPatchedText, ArePatched, texts_with, layouts_with, CanJoin, CanPlace, joined, IsPlaced, GoesTo, CallsAim}
-use Rattle.patcher.proofs.CallWords.{IsJalr, site_is_jal, second_is_jalr, IsStart, start_outside}
+use Rattle.patcher.specs.Patched.{ArePatches, IsSet, IsPatchedText, ArePatched, texts_with, layouts_with, CanJoin, CanPlace, joined, IsPlaced}
+use Rattle.patcher.proofs.FuncStarts.{IsStart, start_outside}
 use Rattle.patcher.proofs.MoreRows.{Carries, stands_more, moved_more, kept_row, site_row, second_row, original_row, hop_row, mid_row, target_back}
 use Rattle.patcher.proofs.Patching.{fits, patched_text, patched_layouts, spans_all}
 use Rattle.patcher.proofs.Joined.{IsStill, here_make, live_alone, live_first, live_patched, live_absent, live_joined, live_last, alone_here, names_all, laid_all}
@@ -80,10 +81,6 @@ record SecondCase (p : Picture) (new : Option Laid) (x : ℕ) (g : Goal) : Type 
   called : second_of p x ≡ Some func
   starts : start_of p func ≡ Some start
   goal : second_by p x (moved_to new start) ≡ Some g
-
-bound : {X Y : Type 0} (o : Option X) (f : X → Option Y) (y : Y) → option_and_then f o ≡ Some y → (x : X) × (o ≡ Some x) × (f x ≡ Some y)
-bound None f y e = absurd (cc)
-bound (Some x) f y e = (x, refl, e)
 
 mapped : {X Y : Type 0} (o : Option X) (f : X → Y) (y : Y) → option_map f o ≡ Some y → (x : X) × (o ≡ Some x) × (f x ≡ y)
 mapped None f y e = absurd (cc)

@@ -1,13 +1,10 @@
 -- Patches, and the words that they leave.
-use Rattle.std.specs.Prelude.{◌≡◌, ℕ, ℤ, ◌+◌, ◌*◌, ◌≤◌, ◌⊎◌, ◌++◌, List, [], ◌∷◌, length, map, All, Any, Option, Some, None, IsSome, IfSome}
+use Rattle.std.specs.Prelude.{◌≡◌, ℕ, ◌+◌, ◌*◌, ◌≤◌, ◌⊎◌, ◌++◌, List, [], ◌∷◌, length, map, All, Any, Option, Some, None, IsSome, IfSome}
 use Rattle.image.specs.declared.ranges.TextRange.{TextRange}
-use Rattle.rv_isa.specs.declared.instr.Instr.TheVariants.{Jal}
-use Rattle.image.specs.Targets.{target}
 use Rattle.image.specs.Texts.{word_at}
 use Rattle.image.specs.Picture.{Picture, IsKept}
 use Rattle.layout.specs.Laid.{Laid, IsLaid, item_at, with_word}
-use Rattle.layout.specs.declared.point.Point.TheVariants.{Start}
-use Rattle.layout.specs.Points.{Code, read, code_of}
+use Rattle.layout.specs.Points.{code_of}
 use Rattle.layout.specs.Rows.{Renders}
 use Rattle.layout.specs.Alone.{NamesCalls, RendersAlone}
 use Rattle.patcher.specs.declared.goal.Goal.{Goal}
@@ -122,15 +119,3 @@ pub record IsPlaced (p : Picture) (now : List TextRange) (lives : List Laid) : T
   pub laid : All IsLaid lives
   pub calls : All (NamesCalls p) lives
   pub renders : Renders (code_of p (word_at now) lives)
-
--- the word at a goes to a Start of s
-pub record GoesTo (c : Code) (a s : ℕ) : Type 0 where
-  pub rd : ℕ
-  pub aim : ℤ
-  pub word : read c.word a ≡ Some (Jal rd aim)
-  pub start : c.point (target a aim) ≡ Some (Start s)
-
--- the word of each call is the original one, or goes to a Start of its function
-pub record CallsAim (c : Code) : Type 0 where
-  pub sites : (a x s : ℕ) → c.point a ≡ Some (Start x) → c.site x ≡ Some s → (c.word a ≡ c.text x) ⊎ GoesTo c a s
-  pub seconds : (a x s : ℕ) → c.point a ≡ Some (Start x) → c.second x ≡ Some s → (c.word a ≡ c.text x) ⊎ GoesTo c a s

@@ -6,10 +6,11 @@ ghost use Rattle.image.specs.Picture.{Picture, IsKept};
 ghost use Rattle.image.specs.Texts.{word_at};
 ghost use Rattle.layout.specs.Laid.{Laid, IsLaid};
 ghost use Rattle.layout.specs.Points.{code_of};
+ghost use Rattle.layout.specs.Rows.{CallsAim};
 ghost use Rattle.layout.specs.Alone.{alone};
 ghost use Rattle.patcher.specs.declared.patches.Patches.{Patches};
 ghost use Rattle.patcher.specs.Texts.{IsTextOf};
-ghost use Rattle.patcher.specs.Patched.{Fits, ArePatches, IsPatchedText, ArePatched, texts_with, layouts_with, CanPlace, IsPlaced, CallsAim, joined};
+ghost use Rattle.patcher.specs.Patched.{Fits, ArePatches, IsPatchedText, ArePatched, texts_with, layouts_with, CanPlace, IsPlaced, joined};
 
 use layout::layout::Layout;
 

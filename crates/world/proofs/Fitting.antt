@@ -9,11 +9,10 @@ use Rattle.plans.specs.declared.plan.Moved.{Moved}
 use Rattle.plans.specs.Given.{plan_fault}
 use Rattle.emit.specs.Entries.{entries_of}
 use Rattle.emit.specs.Emitted.{IsEmitted, plan_unreadable}
-use Rattle.emit.proofs.Emission.{made_laid, emitted_renders}
+use Rattle.emit.proofs.Emission.{made_laid, emitted_renders, emitted_aims, emitted_some}
 use Rattle.region.specs.Free.{Rises, AreFree, fit}
 use Rattle.region.proofs.FreeLaws.{fit_free, fit_inside}
 use Rattle.world.specs.Replacing.{size_of, IsNew, no_layout, layout_at, IsFit, HasShortWords}
-use Rattle.world.proofs.EmitLaws.{emitted_aims, emitted_some}
 use Rattle.world.proofs.Placing.{fit_whole, fit_low, within_region}
 use Rattle.world.proofs.WholeHops.{hops_whole}
 

@@ -1,5 +1,4 @@
 pub mod WholeHops
-pub mod EmitLaws
 pub mod Fitting
 pub mod Following
 pub mod FreeRanges

@@ -16,11 +16,11 @@ use Rattle.emit.specs.Entries.{entries_of}
 use Rattle.emit.specs.Emitted.{IsEmitted, plan_unreadable, Explains, ExplainsSize}
 use Rattle.emit.specs.declared.fault.EmitFault.{EmitFault}
 use Rattle.emit.specs.declared.fault.EmitFault.TheVariants as fault
+use Rattle.emit.proofs.Emission.{emitted_aims, emitted_some}
 use Rattle.region.specs.Free.{Rises, AreFree, holds, range_from, fit, largest}
 use Rattle.sched_log.specs.declared.facts.Refusal.{Refusal}
 use Rattle.sched_log.specs.declared.facts.Refusal.TheVariants as refusal
 use Rattle.world.specs.Replacing.{size_of, told_as, IsNew, layout_at, in_layout, in_call, Refuses, ReachRefuses, IsFit}
-use Rattle.world.proofs.EmitLaws.{emitted_aims, emitted_some}
 use Rattle.world.proofs.ShortWords.{short_layout}
 use Rattle.world.proofs.WholeHops.{hops_whole}
 

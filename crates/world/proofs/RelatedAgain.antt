@@ -10,7 +10,7 @@ use Rattle.machine.specs.States.{State}
 use Rattle.plans.specs.declared.plan.Moved.{Moved}
 use Rattle.plans.specs.Given.{plan_fault}
 use Rattle.patcher.specs.Patched.{CanJoin, joined}
-use Rattle.patcher.proofs.CallWords.{start_outside}
+use Rattle.patcher.proofs.FuncStarts.{start_outside}
 use Rattle.patcher.proofs.Keeps.{stands_on, moved_on, aim_point}
 use Rattle.sched_log.specs.declared.facts.Refusal.{Refusal}
 use Rattle.sched_log.specs.declared.facts.Refusal.TheVariants as refusal

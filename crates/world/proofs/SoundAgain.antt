@@ -9,8 +9,9 @@ use Rattle.image.specs.declared.ranges.TextRange.{TextRange}
 use Rattle.image.specs.Picture.{Picture}
 use Rattle.layout.specs.Laid.{Laid, IsLaid}
 use Rattle.layout.specs.Points.{in_range}
+use Rattle.layout.specs.Rows.{CallsAim}
 use Rattle.layout.specs.Alone.{alone, InRegion, NamesCalls}
-use Rattle.patcher.specs.Patched.{LieApart, CanJoin, CallsAim, IsPlaced, IsPatchedText, IsPatchedLayout, ArePatched, joined}
+use Rattle.patcher.specs.Patched.{LieApart, CanJoin, IsPlaced, IsPatchedText, IsPatchedLayout, ArePatched, joined}
 use Rattle.patcher.proofs.Joined.{patched_length, patched_at, all_patched, laid_all, names_all}
 use Rattle.patcher.proofs.Keeps.{renders_on, calls_aim, all_joined}
 use Rattle.region.specs.Free.{Rises, is_free}

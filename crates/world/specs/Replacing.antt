@@ -11,6 +11,7 @@ use Rattle.plans.specs.declared.plan.Moved.{Moved}
 use Rattle.guest_mem.specs.Memory.{Memory, is_link_at, number_at}
 use Rattle.layout.specs.Laid.{Laid, IsLaid}
 use Rattle.layout.specs.Points.{Code, start_of}
+use Rattle.layout.specs.Rows.{CallsAim}
 use Rattle.layout.specs.Alone.{alone, RendersAlone}
 use Rattle.emit.specs.Entries.{entries_of}
 use Rattle.emit.specs.Emitted.{IsEmitted, plan_unreadable}
@@ -19,7 +20,7 @@ use Rattle.emit.specs.declared.fault.EmitFault.TheVariants as fault
 use Rattle.emit.specs.Placed as emitted
 use Rattle.patcher.specs.declared.patches.Patches.{Patches}
 use Rattle.patcher.specs.Goals.{goal_of, moved_to}
-use Rattle.patcher.specs.Patched.{CallsAim, ArePatches, IsPatchedText, ArePatched, joined}
+use Rattle.patcher.specs.Patched.{ArePatches, IsPatchedText, ArePatched, joined}
 use Rattle.patcher.specs.Reach.{AllReach}
 use Rattle.patcher.specs.Reach as reach
 use Rattle.region.specs.Free.{AreFree, fit, largest, taken}

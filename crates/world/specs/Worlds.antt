@@ -11,10 +11,11 @@ use Rattle.layout.specs.declared.point.Point.{Point}
 use Rattle.layout.specs.declared.point.Point.TheVariants.{Start}
 use Rattle.layout.specs.Points.{Code, in_range, live_at, here_point}
 use Rattle.layout.specs.Points as points
+use Rattle.layout.specs.Rows.{CallsAim}
 use Rattle.layout.specs.Alone.{InRegion}
 use Rattle.machine.specs.Start.{start_of}
 use Rattle.machine.specs.States.{State}
-use Rattle.patcher.specs.Patched.{LieApart, IsPlaced, CallsAim}
+use Rattle.patcher.specs.Patched.{LieApart, IsPlaced}
 use Rattle.region.specs.Free.{Rises, is_free, piece}
 use Rattle.sched_log.specs.declared.facts.Refused.{Refused}
 use Rattle.sim_laws.specs.declared.stepped.Stepped.{Stepped}
