@@ -10,6 +10,7 @@ use std::alloc::{AllocError, Global};
 /// - `far call` calls by an AUIPC and a JALR; `last call` calls in the last word of its text; `apart` has two calls of one function, of
 ///   which the second is far away.
 /// - `stored link` overwrites one byte of a link and computes on the word; `to second` jumps to the second word of a far call.
+/// - `table` calls through a table of functions; `own table` puts a plain number into it first.
 /// - `headers` exits with what stands for its program headers on the stack.
 const GUESTS: &str = "\
 countdown: .func main; jal x1,work; jal x1,work; addi x17,x0,93; ecall; .end/.func work; addi x5,x0,2; top: addi x5,x5,-1; bne x5,x0,top; auipc x6,0; andi x10,x6,63; ret; .end
@@ -37,6 +38,7 @@ to region: .func main; lui x5,18; jalr x0,0(x5); .end
 line: .func main; addi x10,x0,1; addi x17,x0,64; lui x11,17; addi x12,x0,3; ecall; addi x10,x0,0; addi x17,x0,93; ecall; .end; .data; .ascii \"hi\\n\"
 echo: .func main; addi x10,x0,0; lui x11,65280; addi x12,x0,5; addi x17,x0,63; ecall; addi x12,x10,0; addi x10,x0,1; addi x17,x0,64; ecall; addi x17,x0,93; ecall; .end
 table: .func main; lui x8,17; ld x5,0(x8); jalr x1,0(x5); ld x5,0(x8); jalr x1,0(x5); addi x17,x0,93; ecall; .end; .func f; addi x10,x10,5; ret; .end/.data; .object _ZTV1F; .slot f; .endobject
+own table: .func main; lui x8,17; lui x5,16; addi x5,x5,40; sd x5,0(x8); ld x5,0(x8); jalr x1,0(x5); ld x5,0(x8); jalr x1,0(x5); addi x17,x0,93; ecall; .end; .func f; addi x10,x10,5; ret; .end/.data; .object _ZTV1F; .slot f; .endobject
 name: .func main; ld x5,8(x2); lbu x10,0(x5); addi x17,x0,93; ecall; .end
 headers: .func main; ld x10,40(x2); ld x11,72(x2); add x10,x10,x11; addi x17,x0,93; ecall; .end
 exit: .func main; addi x17,x0,93; ecall; .end

@@ -148,6 +148,9 @@ module _ (p : Picture) (kept : IsKept p) (parts : List Moved) (known : ℕ → T
       (rw f (all_in_order text second known (IsOutside p) (calls_of p parts) r.0.func (runs_of p m.func) m.order b), functions ms r.1 (λ y h. into y (inr h)))
 
 -- a function that moves has a block at its start
+pub first_begins : (p : Picture) (m : Moved) → IsKept p → (r : IsReady p m) → Begins (in_order (runs_of p m.func) m.order) r.func.from
+first_begins p m k r = begins_in_order (runs_of p m.func) m.order r.func.from r.order (sound p m.func r.func k r.there r.clean).entry
+
 starts_moved : (p : Picture) (ms : List Moved) (g : ℕ) → IsKept p → AreReady p ms → list_any (λ m. is_number g (start_of p m.func)) ms ≡ true → StartsIn (map (moving p) ms) g
 unfolding start_of
 starts_moved p [] g k r e = absurd (cc)
@@ -156,9 +159,8 @@ starts_moved p (m ∷ ms) g k r e =
   where
     own : is_number g (option_map func_start (slice_get p.funcs m.func)) ≡ true → Begins (in_order (runs_of p m.func) m.order) g
     own h =
-        let s = sound p m.func r.0.func k r.0.there r.0.clean in
         let n : is_number g (Some r.0.func.from) ≡ true = sym (ap (λ o. is_number g (option_map func_start o)) r.0.there) ∙ h in
-        subst (Begins (in_order (runs_of p m.func) m.order)) (eqb-true r.0.func.from g n) (begins_in_order (runs_of p m.func) m.order r.0.func.from r.0.order s.entry)
+        subst (Begins (in_order (runs_of p m.func) m.order)) (eqb-true r.0.func.from g n) (first_begins p m k r.0)
 
     by_case : (is_number g (option_map func_start (slice_get p.funcs m.func)) ≡ true) ⊎ (list_any (λ m. is_number g (start_of p m.func)) ms ≡ true)
         → (list_any (λ m. is_number g (start_of p m.func)) ms ≡ true → StartsIn (map (moving p) ms) g) → StartsIn (map (moving p) (m ∷ ms)) g

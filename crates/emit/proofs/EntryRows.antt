@@ -55,7 +55,7 @@ module _ (text second : ℕ → Option ℕ) (known outside : ℕ → Type 0) whe
     address : (x rd imm : ℕ) (more : List Entry) → e ≡ start x (High rd (made_by x imm)) → rest ≡ mid x (Low rd (made_by x imm)) ∷ more
         → read text x ≡ Some (instr.Auipc rd imm) → rd ≢ 0 → Ahead more (x + 4) → EntryRow e rest
     middle : (x rd v : ℕ) → e ≡ mid x (Low rd v) → EntryRow e rest
-    jump : (x rd : ℕ) (off : ℤ) (to : To) → e ≡ start x (Jump rd to) → read text x ≡ Some (instr.Jal rd off) → LeadsTo rest to (target x off)
+    jump : (x rd : ℕ) (off : ℤ) (to : To) → e ≡ start x (Jump rd to) → read text x ≡ Some (instr.Jal rd off) → LeadsToStart to (target x off)
         → (rd ≢ 0 → Ahead rest (x + 4)) → EntryRow e rest
     jump_register : (x w rd rs : ℕ) (off : ℤ) → e ≡ start x (Same w) → text x ≡ Some w → decoded w ≡ Some (instr.Jalr rd rs off)
         → (rd ≢ 0 → Ahead rest (x + 4)) → EntryRow e rest
@@ -82,12 +82,13 @@ module _ (text second : ℕ → Option ℕ) (known outside : ℕ → Type 0) whe
       by_test true h t = (refl, h refl)
       by_test false h t = (refl, t refl)
 
+  pub start_leads : (rest : List Entry) (to : To) (y : ℕ) → LeadsToStart to y → LeadsTo rest to y
+  start_leads rest (Here z) y l = l
+  start_leads rest (There z) y l = l
+  start_leads rest Over y l = absurd l
+
   within_leads : (f : Func) (y : ℕ) (rest : List Entry) → Leads known outside f y → LeadsTo rest (within f y) y
-  within_leads f y rest l = by_test (is_inside y f) l.here l.there
-    where
-      by_test : (b : Bool) → (b ≡ true → known y) → (b ≡ false → outside y) → LeadsTo rest (if b then Here y else There y) y
-      by_test true h t = (refl, h refl)
-      by_test false h t = (refl, t refl)
+  within_leads f y rest l = start_leads rest (within f y) y (within_start f y l)
 
   -- the words of rest begin with the block that comes next
   abbrev pub NextIs : List Entry → Option ℕ → Type 0
@@ -135,16 +136,16 @@ module _ (text second : ℕ → Option ℕ) (known outside : ℕ → Type 0) whe
       by_test true h k = (kept x w (instr.Auipc rd imm) refl t r (h refl) a, tt)
       by_test false h k = (address x rd imm rest refl refl (read_is text x w _ t r) (k refl) a, (middle x rd (made_by x imm) refl, tt))
 
-  called_leads : (c : Calls) (f : Func) (x y : ℕ) (rest : List Entry) → Leads known outside f y → SiteAims known outside c x y → LeadsTo rest (called c x (within f y)) y
-  called_leads c f x y rest l a = by_site (c.site x) a.is a.moved a.stays
+  called_leads : (c : Calls) (f : Func) (x y : ℕ) → Leads known outside f y → SiteAims known outside c x y → LeadsToStart (called c x (within f y)) y
+  called_leads c f x y l a = by_site (c.site x) a.is a.moved a.stays
     where
-      by_moved : (g : ℕ) (b : Bool) → y ≡ g → (b ≡ true → known g) → outside g → LeadsTo rest (if b then Here g else There g) y
+      by_moved : (g : ℕ) (b : Bool) → y ≡ g → (b ≡ true → known g) → outside g → LeadsToStart (if b then Here g else There g) y
       by_moved g true e k o = (sym e, subst known (sym e) (k refl))
       by_moved g false e k o = (sym e, subst outside (sym e) o)
 
       by_site : (s : Option ℕ) → ((g : ℕ) → s ≡ Some g → y ≡ g) → ((g : ℕ) → s ≡ Some g → c.moved g ≡ true → known g) → ((g : ℕ) → s ≡ Some g → outside g)
-          → LeadsTo rest (called_by c s (within f y)) y
-      by_site None e k o = within_leads f y rest l
+          → LeadsToStart (called_by c s (within f y)) y
+      by_site None e k o = within_start f y l
       by_site (Some g) e k o = by_moved g (c.moved g) (e g refl) (k g refl) (o g refl)
 
   second_rows : (c : Calls) (x w rd rs : ℕ) (off : ℤ) (rest : List Entry) → text x ≡ Some w → decoded w ≡ Some (instr.Jalr rd rs off)
@@ -164,7 +165,7 @@ module _ (text second : ℕ → Option ℕ) (known outside : ℕ → Type 0) whe
       → Continues rest next x i → Rows (rendered c f next far x w i) rest
   word_rows c f next far x w (instr.Auipc rd imm) rest t r a k = address_rows f next x w rd imm rest t r k
   word_rows c f next far x w (instr.Jal rd off) rest t r a k =
-      (jump x rd off (called c x (within f (target x off))) refl (read_is text x w _ t r) (called_leads c f x (target x off) rest a.0 a.1) k, tt)
+      (jump x rd off (called c x (within f (target x off))) refl (read_is text x w _ t r) (called_leads c f x (target x off) a.0 a.1) k, tt)
   word_rows c f next far x w (instr.Jalr rd rs off) rest t r a k = (second_rows c x w rd rs off rest t r a k, tt)
   word_rows c f next far x w (instr.Branch o rs1 rs2 off) rest t r a k =
       branch_rows f next far x o rs1 rs2 off rest (read_is text x w _ t r) a.0 a.1 k

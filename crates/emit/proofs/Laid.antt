@@ -1,6 +1,6 @@
--- A layout at its base renders the image, word by word.
-use Rattle.std.proofs.Common.{◌≡◌, ◌≢◌, ℕ, suc, ◌+◌, ◌-◌, ◌*◌, ◌^◌, ◌≤◌, ◌<◌, Bool, true, false, List, [], ◌∷◌, length, map, refl, sym, ◌∙◌, subst, ap, arith}
-use Rattle.std.specs.Prelude.{Option, Some, None, pos, ◌-ℤ◌, slice_get, is_some, IsSome}
+-- A layout at its base renders the image, word by word, and its calls go to their functions.
+use Rattle.std.proofs.Common.{◌≡◌, ◌≢◌, ℕ, suc, ◌+◌, ◌-◌, ◌*◌, ◌^◌, ◌≤◌, ◌<◌, Bool, true, false, List, [], ◌∷◌, length, map, refl, sym, ◌∙◌, subst, ap, inl, inr, arith}
+use Rattle.std.specs.Prelude.{◌⊎◌, Option, Some, None, pos, ◌-ℤ◌, slice_get, is_some, IsSome}
 use Rattle.std.specs.Option.{option_map}
 use Rattle.std.proofs.lemmas.Option.{slice_get_within, slice_get-map, slice_get-get_or}
 use Rattle.std.proofs.lemmas.Bool.{false≢true}
@@ -15,7 +15,7 @@ use Rattle.layout.specs.declared.point.Point.{Point}
 use Rattle.layout.specs.declared.point.Point.TheVariants.{Start, Hop, Mid}
 use Rattle.layout.specs.Laid.{Laid, IsLaid, point_in}
 use Rattle.layout.specs.Points.{StandsFor, at_start, at_hop, in_range, read}
-use Rattle.layout.specs.Rows.{Near, Next, AimsAt, MovedRow, StartRow, HopRow, MidRow, Renders}
+use Rattle.layout.specs.Rows.{Near, Next, AimsAt, MovedRow, StartRow, HopRow, MidRow, Renders, GoesTo, CallsAim}
 use Rattle.layout.specs.Rows as rows
 use Rattle.layout.specs.Alone.{InRegion}
 use Rattle.layout.proofs.Places.{item_here, item_place}
@@ -24,7 +24,7 @@ use Rattle.layout.proofs.TextRows.{read_is, text_row}
 use Rattle.emit.specs.declared.entry.To.{To}
 use Rattle.emit.specs.declared.entry.To.TheVariants.{Here, There, Over}
 use Rattle.emit.specs.declared.entry.Made.{Made}
-use Rattle.emit.specs.declared.entry.Made.TheVariants.{Jump, High, Low}
+use Rattle.emit.specs.declared.entry.Made.TheVariants.{Same, Jump, High, Low}
 use Rattle.emit.specs.declared.entry.Entry.{Entry}
 use Rattle.emit.specs.Entries.{place, start, mid}
 use Rattle.emit.specs.Placed.{aim, IsMade, ArePlaced, InReach, IsOut, high_of, low_of, point_of}
@@ -32,7 +32,8 @@ use Rattle.emit.proofs.Leading.{IsOutside}
 use Rattle.emit.proofs.Reach.{target_back, value_back, made_small, out_or_in}
 use Rattle.emit.proofs.Places.{Occurs, place_found, row_at}
 use Rattle.emit.proofs.Halves.{Halves, first_half}
-use Rattle.emit.proofs.EntryRows.{Ahead, AheadTwo, StandsAs, LeadsTo, LeadsToStart, EntryRow, kept, address, middle, jump, jump_register, call_second, branch, branch_inverted, hops, Rows}
+use Rattle.emit.proofs.CallKinds.{CallsBy, IsCallOf, site_is_call, second_is_call}
+use Rattle.emit.proofs.EntryRows.{Ahead, AheadTwo, StandsAs, LeadsTo, LeadsToStart, start_leads, EntryRow, kept, address, middle, jump, jump_register, call_second, branch, branch_inverted, hops, Rows}
 
 abbrev is_high : Made → Bool
 is_high (High rd v) = true
@@ -173,31 +174,20 @@ module _ (p : Picture) (is_kept : IsKept p) (l : Laid) (laid : IsLaid l) (within
         let low = low_here k e s in
         aims_at (l.base + 4 * k) (l.base + 4 * k + 8) y (omega (arith, low)) (over k e s after rest y h) (near k e s _)
 
+    -- the jump of this word goes to a Start of y
+    aims_start : (to : To) (y : ℕ) → LeadsToStart text second known outside to y → (plain p l).point (target (l.base + 4 * k) (pos (aim l.base es (l.base + 4 * k) to) -ℤ pos (l.base + 4 * k))) ≡ Some (Start y)
+    aims_start (Here z) y (q, h) = rw q (rw (target_back (l.base + 4 * k) (l.base + 4 * place y es) (here_low y h)) (here_point y h))
+    aims_start (There z) y (q, h) = rw q (rw (target_back (l.base + 4 * k) y h.below) (outside_stands y h))
+    aims_start Over y h = absurd h
+
+    jump_reads : (rd : ℕ) (to : To) → e.made ≡ Jump rd to → read (plain p l).word (l.base + 4 * k) ≡ Some (instr.Jal rd (pos (aim l.base es (l.base + 4 * k) to) -ℤ pos (l.base + 4 * k)))
+    jump_reads rd to m = let w = word_is k e s in reads_here k w.0 _ w.1 (subst (λ (d : Made). IsMade l.base es (l.base + 4 * k) d w.0) m w.2)
+
     hop_row : (x : ℕ) (to : To) → e.made ≡ Jump 0 to → LeadsToStart text second known outside to x → HopRow (plain p l) (l.base + 4 * k) x
-    hop_row x to m h = by_to to m h
-      where
-        by_to : (t : To) → e.made ≡ Jump 0 t → LeadsToStart text second known outside t x → HopRow (plain p l) (l.base + 4 * k) x
-        by_to (Here z) m (q, h) =
-            let g = target_back (l.base + 4 * k) (l.base + 4 * place x es) (here_low x h) in
-            let w = word_is k e s in
-            let r = subst (λ (d : Made). IsMade l.base es (l.base + 4 * k) d w.0) m w.2 in
-            record {
-              aim = _;
-              word = reads_here k w.0 (instr.Jal 0 (pos (l.base + 4 * place x es) -ℤ pos (l.base + 4 * k))) w.1 (subst (λ (n : ℕ). decoded w.0 ≡ Some (instr.Jal 0 (pos (l.base + 4 * place n es) -ℤ pos (l.base + 4 * k)))) q r);
-              start = rw g (here_point x h);
-              near = near k e s _;
-            }
-        by_to (There z) m (q, h) =
-            let g = target_back (l.base + 4 * k) x h.below in
-            let w = word_is k e s in
-            let r = subst (λ (d : Made). IsMade l.base es (l.base + 4 * k) d w.0) m w.2 in
-            record {
-              aim = _;
-              word = reads_here k w.0 (instr.Jal 0 (pos x -ℤ pos (l.base + 4 * k))) w.1 (subst (λ (n : ℕ). decoded w.0 ≡ Some (instr.Jal 0 (pos n -ℤ pos (l.base + 4 * k)))) q r);
-              start = rw g (outside_stands x h);
-              near = near k e s _;
-            }
-        by_to Over m h = absurd h
+    hop_row x to m h = record { aim = _; word = jump_reads 0 to m; start = aims_start to x h; near = near k e s _ }
+
+    goes_to : (rd : ℕ) (to : To) (y : ℕ) → e.made ≡ Jump rd to → LeadsToStart text second known outside to y → GoesTo (plain p l) (l.base + 4 * k) y
+    goes_to rd to y m h = record { rd = rd; aim = _; word = jump_reads rd to m; start = aims_start to y h }
 
     start_row : (x : ℕ) → e.point ≡ Start x → EntryRow text second known outside e after → StartRow (plain p l) (l.base + 4 * k) x × IsSome (read text x)
     start_row x h (kept y w i q t r u n) =
@@ -213,7 +203,7 @@ module _ (p : Picture) (is_kept : IsKept p) (l : Laid) (laid : IsLaid l) (within
         let z : y ≡ x = cc in
         let v = made k e _ s q in
         subst (λ (m : ℕ). StartRow (plain p l) (l.base + 4 * k) m × IsSome (read text m)) z
-        (rows.jump rd off _ t (reads_here k v.0 _ v.1 v.2) (aims to (target y off) u) (λ r. next k e s after rest (y + 4) (n r)), ap is_some t)
+        (rows.jump rd off _ t (reads_here k v.0 _ v.1 v.2) (aims to (target y off) (start_leads text second known outside after to (target y off) u)) (λ r. next k e s after rest (y + 4) (n r)), ap is_some t)
     start_row x h (jump_register y w rd rs off q t r n) =
         let z : y ≡ x = cc in
         let v = made k e _ s q in
@@ -252,6 +242,29 @@ module _ (p : Picture) (is_kept : IsKept p) (l : Laid) (laid : IsLaid l) (within
     hop_case x h (hops y to q u) =
         let z : y ≡ x = cc in
         subst (λ (m : ℕ). HopRow (plain p l) (l.base + 4 * k) m) z (hop_row y to (ap (λ (d : Entry). d.made) q) u)
+
+    same_word : (x y w : ℕ) → y ≡ x → e ≡ start y (Same w) → text y ≡ Some w → (plain p l).word (l.base + 4 * k) ≡ text x
+    same_word x y w z q t = let v = made k e _ s q in v.1 ∙ ap (λ (m : ℕ). Some m) v.2 ∙ sym t ∙ ap text z
+
+    called_by : (x y g : ℕ) (i : Instr) → y ≡ x → IsCallOf p x g → read text y ≡ Some i → CallsBy p y g i
+    called_by x y g i z c t = subst (λ (m : ℕ). IsCallOf p m g) (sym z) c i t
+
+    -- the word of a call is the original one, or goes to a Start of its function
+    call_case : (x g : ℕ) → e.point ≡ Start x → IsCallOf p x g → EntryRow text second known outside e after → ((plain p l).word (l.base + 4 * k) ≡ text x) ⊎ GoesTo (plain p l) (l.base + 4 * k) g
+    call_case x g h c (kept y w i q t r u n) = inl (same_word x y w (cc) q t)
+    call_case x g h c (address y rd imm more q m t r n) = absurd (called_by x y g (instr.Auipc rd imm) (cc) c t)
+    call_case x g h c (middle y rd v q) = absurd (cc)
+    call_case x g h c (jump y rd off to q t u n) =
+        let aim : target y off ≡ g = called_by x y g (instr.Jal rd off) (cc) c t in
+        inr (goes_to rd to g (ap (λ (d : Entry). d.made) q) (subst (λ (m : ℕ). LeadsToStart text second known outside to m) aim u))
+    call_case x g h c (jump_register y w rd rs off q t r n) = inl (same_word x y w (cc) q t)
+    call_case x g h c (call_second y rd rs f off q t m b n) =
+        let called : second y ≡ Some g = called_by x y g (instr.Jalr rd rs off) (cc) c t in
+        let same : f ≡ g = cc in
+        inr (goes_to rd (Here f) g (ap (λ (d : Entry). d.made) q) (same, subst known same b))
+    call_case x g h c (branch y o rs1 rs2 off to q t u n) = absurd (called_by x y g (instr.Branch o rs1 rs2 off) (cc) c t)
+    call_case x g h c (branch_inverted y o rs1 rs2 off to q t u n) = absurd (called_by x y g (instr.Branch o rs1 rs2 off) (cc) c t)
+    call_case x g h c (hops y to q u) = absurd (cc)
 
     not_high : (x rd v : ℕ) (m : Made) → e ≡ start x (High rd v) → e.made ≡ m → is_high m ≡ false → ⊥
     not_high x rd v m h q n = false≢true (sym n ∙ ap is_high (sym q ∙ ap (λ (d : Entry). d.made) h))
@@ -332,4 +345,20 @@ module _ (p : Picture) (is_kept : IsKept p) (l : Laid) (laid : IsLaid l) (within
       hops = hops_of;
       mids = mids;
       reads = λ a x h e. (start_here a x (point_back p l a (Start x) (home_back p l a h) e)).1;
+    }
+
+    call_aims : (a x g : ℕ) → (plain p l).point a ≡ Some (Start x) → IsCallOf p x g → ((plain p l).word a ≡ text x) ⊎ GoesTo (plain p l) a g
+    call_aims a x g h c = by_region a (Start x) h inside outside_text
+      where
+        inside : point_in l a ≡ Some (Start x) → ((plain p l).word a ≡ text x) ⊎ GoesTo (plain p l) a g
+        inside q = let f = find_place a (Start x) q in let t = row f.0 f.2.0 f.2.1 in rw f.1 (call_case f.0 f.2.0 f.2.1 t.0 t.2 x g f.2.2 c t.1)
+
+        outside_text : in_range p.region a ≡ false → Start x ≡ Start a → ((plain p l).word a ≡ text x) ⊎ GoesTo (plain p l) a g
+        outside_text r q = let same : a ≡ x = cc in inl (plain_word p l a r ∙ ap text same)
+
+    -- each call is the original word, or goes to a Start of its function
+    pub calls_aim : CallsAim (plain p l)
+    calls_aim = record {
+      sites = λ a x g h e. call_aims a x g h (site_is_call p is_kept x g e);
+      seconds = λ a x g h e. call_aims a x g h (second_is_call p is_kept x g e);
     }

@@ -1,8 +1,9 @@
 //! The words of a plan before they have a base.
 
-ghost use Rattle.std.specs.Prelude.{◌≡◌, ◌+◌, ◌*◌, ◌%◌, ◌≤◌, None, IfOk, IfErr, OnOk, length};
+ghost use Rattle.std.specs.Prelude.{◌≡◌, ◌≢◌, ◌+◌, ◌*◌, ◌%◌, ◌≤◌, ◌<◌, [], None, IfOk, IfErr, OnOk, length};
 ghost use Rattle.plans.specs.Given.{plan_fault};
-ghost use Rattle.layout.specs.Alone.{InRegion, RendersAlone};
+ghost use Rattle.layout.specs.Alone.{alone, InRegion, RendersAlone};
+ghost use Rattle.layout.specs.Rows.{CallsAim};
 ghost use Rattle.emit.specs.Entries.{entries_of};
 ghost use Rattle.emit.specs.Placed.{AreNear, Stops};
 ghost use Rattle.emit.specs.Emitted.{IsMadeOf, IsEmitted, plan_unreadable, Explains, ExplainsSize, Fits};
@@ -94,13 +95,16 @@ impl Draft<'_> {
         }
     }
 
-    /// The layout at a base, or the first word that is out of reach from there. It renders the image, if it lies in the image's region.
+    /// The layout at a base, or the first word that is out of reach from there. It renders the image, if it lies in the image's region, and
+    /// each of its calls goes to its function, or is the original word. A plan that moves a function has words.
     pub fn place(&self, alloc: Global, base: u64) -> Result<Layout, EmitFault>
         requires whole { base % 4 ≡ 0 }
         requires fits { Fits self.now.image.now self.now.plan.now base }
         ensures is { IfOk result (IsEmitted self.now.image.now self.now.plan.now base) }
         ensures fault { IfErr result (Explains self.now.image.now self.now.plan.now base) }
         ensures renders { IfOk result (λ l. InRegion self.now.image.now base (length l.words) → RendersAlone self.now.image.now l) }
+        ensures aims { IfOk result (λ l. InRegion self.now.image.now base (length l.words) → CallsAim (alone self.now.image.now l)) }
+        ensures some { IfOk result (λ l. self.now.plan.now ≢ [] → 0 < length l.words) }
     {
         self.image.kept();
         match self.put(alloc, base) {

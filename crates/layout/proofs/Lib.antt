@@ -1,4 +1,5 @@
 pub mod CallLookups
+pub mod CallWords
 pub mod Places
 pub mod Exact
 pub mod Full

@@ -1,22 +1,22 @@
 -- The calls of text, and of a layout, are all in their list.
-use Rattle.std.proofs.Common.{◌≡◌, ℕ, zero, suc, ◌+◌, ◌==◌, ◌<◌, ◌^◌, Bool, true, false, List, [], ◌∷◌, get_or, refl, ◌∙◌, ap, inl, inr, arith}
-use Rattle.std.specs.Prelude.{◌⊎◌, Option, Some, None, All, Contains, find, option_and_then, if◌then◌else◌}
+use Rattle.std.proofs.Common.{◌≡◌, ℕ, zero, suc, ◌+◌, ◌<◌, ◌^◌, List, [], ◌∷◌, get_or, refl, ◌∙◌, ap, inl, inr, arith}
+use Rattle.std.specs.Prelude.{◌⊎◌, Option, Some, None, All, Contains, option_and_then}
 use Rattle.std.specs.List.{filter_map, cons_option}
 use Rattle.std.specs.Option.{option_map, option_or}
-use Rattle.std.proofs.lemmas.Bool.{eqb-true}
 use Rattle.std.proofs.lemmas.List.Elements.{All-append, All-cons, Contains-append_left, Contains-append_right}
 use Rattle.image.specs.declared.ranges.Aim.{Aim}
 use Rattle.image.specs.declared.ranges.Func.{Func}
 use Rattle.image.specs.declared.ranges.TextRange.{TextRange}
 use Rattle.image.specs.Texts.{word_at}
-use Rattle.image.specs.Aims.{aim_place, site_at, pair_at, far_call_at, is_inner}
+use Rattle.image.specs.Aims.{site_at, far_call_at}
 use Rattle.image.specs.Picture.{Picture, IsKept}
 use Rattle.layout.specs.declared.point.Point.{Point}
 use Rattle.layout.specs.declared.point.Point.TheVariants.{Start, Hop, Mid}
 use Rattle.layout.specs.Laid.{Laid, point_in}
-use Rattle.layout.specs.Points.{aim_func, site_of, second_of, start_of}
+use Rattle.layout.specs.Points.{site_of, second_of, start_of}
 use Rattle.layout.specs.Alone.{called_at, NamesCalls}
-use Rattle.layout.proofs.TextWords.{found, text_high}
+use Rattle.layout.proofs.CallWords.{site_listed, second_listed, pair_far}
+use Rattle.layout.proofs.TextWords.{text_high}
 use Rattle.patcher.specs.declared.goal.Goal.{Goal}
 use Rattle.patcher.specs.declared.goal.Call.{Call}
 use Rattle.patcher.specs.Goals.{moved_to, site_goal, second_by, goal_of, goal_at, goal_in}
@@ -34,24 +34,6 @@ goal_calls p new x g e = by_site (site_of p x) (second_of p x) refl refl e
     by_site (Some f) t a b h = inl (f, a)
     by_site None (Some f) a b h = inr (f, b)
     by_site None None a b h = absurd (cc)
-
-listed_by : (o : Option Aim) (f : ℕ) → option_map aim_func o ≡ Some f → (s : Aim) × (o ≡ Some s)
-listed_by None f e = absurd (cc)
-listed_by (Some s) f e = (s, refl)
-
-pub site_listed : (p : Picture) (x f : ℕ) → site_of p x ≡ Some f → (s : Aim) × Contains p.sites s × (s.at ≡ x)
-unfolding site_of
-site_listed p x f e =
-    let s = listed_by (find (λ s. aim_place s == x) p.sites) f e in
-    let c = found (λ s. aim_place s == x) p.sites s.0 s.1 in
-    (s.0, c.0, eqb-true (aim_place s.0) x c.1)
-
-pub second_listed : (p : Picture) (x f : ℕ) → second_of p x ≡ Some f → (s : Aim) × Contains p.pairs s × (s.at + 4 ≡ x)
-unfolding second_of
-second_listed p x f e =
-    let s = listed_by (find (λ s. aim_place s + 4 == x) p.pairs) f e in
-    let c = found (λ s. aim_place s + 4 == x) p.pairs s.0 s.1 in
-    (s.0, c.0, eqb-true (aim_place s.0 + 4) x c.1)
 
 -- ---- lists that are filtered
 module _ (goals : ℕ → Option Goal) (past : ℕ) where
@@ -145,14 +127,6 @@ site_word texts funcs a n e = some_word texts a _ n e
 far_word : (texts : List TextRange) (funcs : List Func) (a n : ℕ) → far_call_at texts funcs a ≡ Some n → (w : ℕ) × (word_at texts a ≡ Some w)
 unfolding far_call_at
 far_word texts funcs a n e = some_word texts a _ n e
-
-pub pair_far : (texts : List TextRange) (funcs : List Func) (entry a n : ℕ) → pair_at texts funcs entry a ≡ Some n → far_call_at texts funcs a ≡ Some n
-unfolding pair_at
-pair_far texts funcs entry a n e = by_test (is_inner texts funcs entry (a + 4)) e
-  where
-    by_test : (b : Bool) → (if b then far_call_at texts funcs a else None) ≡ Some n → far_call_at texts funcs a ≡ Some n
-    by_test true e = e
-    by_test false e = absurd (cc)
 
 pub sites_low : (p : Picture) → IsKept p → All (λ s. s.at + 0 < 2 ^ 64) p.sites
 sites_low p k i d lt =

@@ -1,5 +1,5 @@
 -- What an address has after patches, and with a new layout beside the others.
-use Rattle.std.proofs.Common.{◌≡◌, ℕ, zero, suc, ◌+◌, ◌*◌, ◌<◌, ◌≤◌, List, [], ◌∷◌, ◌++◌, length, refl, sym, ◌∙◌, ap, subst, inl, inr, arith}
+use Rattle.std.proofs.Common.{◌≡◌, ℕ, zero, suc, ◌+◌, ◌*◌, ◌<◌, ◌≤◌, List, [], ◌∷◌, ◌++◌, length, get_or, refl, sym, ◌∙◌, ap, subst, inl, inr, arith}
 use Rattle.std.specs.Prelude.{◌&&◌, Option, Some, None, IsSome, is_some, All}
 use Rattle.std.specs.Option.{option_or}
 use Rattle.std.proofs.lemmas.List.Elements.{All-tail}
@@ -143,25 +143,30 @@ module _ (p : Picture) (new : Option Laid) where
       by_here None k ih = live_later m ms a (here_absent l m t.0 a k) ∙ ih (sym (live_later l ls a k) ∙ e)
       by_here (Some i) k ih = absurd (let f = live_first l ls a i k in cc)
 
+  -- the layouts one by one
+  pub patched_length : (ls ms : List Laid) → ArePatched p new ls ms → length ms ≡ length ls
+  patched_length [] [] t = refl
+  patched_length [] (m ∷ ms) t = absurd t
+  patched_length (l ∷ ls) [] t = absurd t
+  patched_length (l ∷ ls) (m ∷ ms) t = ap suc (patched_length ls ms t.1)
+
+  pub patched_at : (ls ms : List Laid) → ArePatched p new ls ms → (i : ℕ) (d : Laid) → i < length ls → IsPatchedLayout p new (get_or ls i d) (get_or ms i d)
+  patched_at [] ms t i d lt = absurd (omega arith)
+  patched_at (l ∷ ls) [] t i d lt = absurd t
+  patched_at (l ∷ ls) (m ∷ ms) t zero d lt = t.0
+  patched_at (l ∷ ls) (m ∷ ms) t (suc i) d lt = patched_at ls ms t.1 i d (omega arith)
+
+  -- what patches leave alone
+  pub all_patched : (P : Laid → Type 0) → ((l m : Laid) → IsPatchedLayout p new l m → P l → P m) → (ls ms : List Laid) → ArePatched p new ls ms → All P ls → All P ms
+  all_patched P f ls ms t h i d lt =
+      let within : i < length ls = subst (λ n. i < n) (patched_length ls ms t) lt in
+      f (get_or ls i d) (get_or ms i d) (patched_at ls ms t i d within) (h i d within)
+
   pub names_all : (ls ms : List Laid) → ArePatched p new ls ms → All (NamesCalls p) ls → All (NamesCalls p) ms
-  names_all [] [] t n = n
-  names_all [] (m ∷ ms) t n = absurd t
-  names_all (l ∷ ls) [] t n = absurd t
-  names_all (l ∷ ls) (m ∷ ms) t n = cons_all (names_same l m t.0 (n 0 l (omega arith))) (names_all ls ms t.1 (All-tail (NamesCalls p) l ls n))
-    where
-      cons_all : NamesCalls p m → All (NamesCalls p) ms → All (NamesCalls p) (m ∷ ms)
-      cons_all h k zero d lt = h
-      cons_all h k (suc i) d lt = k i d (omega arith)
+  names_all ls ms t n = all_patched (NamesCalls p) names_same ls ms t n
 
   pub laid_all : (ls ms : List Laid) → ArePatched p new ls ms → All IsLaid ls → All IsLaid ms
-  laid_all [] [] t n = n
-  laid_all [] (m ∷ ms) t n = absurd t
-  laid_all (l ∷ ls) [] t n = absurd t
-  laid_all (l ∷ ls) (m ∷ ms) t n = cons_all (laid_same l m t.0 (n 0 l (omega arith))) (laid_all ls ms t.1 (All-tail IsLaid l ls n))
-    where
-      cons_all : IsLaid m → All IsLaid ms → All IsLaid (m ∷ ms)
-      cons_all h k zero d lt = h
-      cons_all h k (suc i) d lt = k i d (omega arith)
+  laid_all ls ms t n = all_patched IsLaid laid_same ls ms t n
 
 -- ---- with the new one
 live_before : (ms : List Laid) (l : Laid) (a : ℕ) (h : Here) → live_at ms a ≡ Some h → live_at (ms ++ l ∷ []) a ≡ Some h

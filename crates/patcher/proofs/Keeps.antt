@@ -14,9 +14,10 @@ use Rattle.image.specs.Picture.{Picture, IsKept}
 use Rattle.layout.specs.declared.point.Point.{Point}
 use Rattle.layout.specs.declared.point.Point.TheVariants.{Start, Hop, Mid}
 use Rattle.layout.specs.Laid.{Laid, IsLaid, item_at, point_in}
-use Rattle.layout.specs.Points.{Code, in_range, read, site_of, second_of, start_of, Here, here_in, here_point, live_at, code_of}
-use Rattle.layout.specs.Rows.{StartRow, HopRow, MidRow, Renders, GoesTo, CallsAim}
+use Rattle.layout.specs.Points.{Code, StandsFor, in_range, read, site_of, second_of, start_of, Here, here_in, here_point, live_at, code_of}
+use Rattle.layout.specs.Rows.{MovedRow, StartRow, HopRow, MidRow, Renders, GoesTo, CallsAim}
 use Rattle.layout.specs.Alone.{alone, NamesCalls}
+use Rattle.layout.proofs.CallWords.{bound, IsJalr, site_is_jal, second_is_jalr}
 use Rattle.layout.proofs.Places.{item_here}
 use Rattle.layout.proofs.TextRows.{read_is, read_same}
 use Rattle.patcher.specs.declared.goal.Goal.{Goal}
@@ -24,8 +25,8 @@ use Rattle.patcher.specs.declared.goal.Goal.TheVariants.{Jump, Same}
 use Rattle.patcher.specs.declared.patches.Patches.{Patches}
 use Rattle.patcher.specs.Goals.{link_of, is_start, start_in, moved_to, site_goal, second_by, goal_of, goal_at, IsMade}
 use Rattle.patcher.specs.Patched.{ArePatches, IsSet, IsPatchedText, ArePatched, texts_with, layouts_with, CanJoin, CanPlace, joined, IsPlaced}
-use Rattle.patcher.proofs.CallWords.{IsJalr, site_is_jal, second_is_jalr, IsStart, start_outside}
-use Rattle.patcher.proofs.MoreRows.{Carries, kept_row, site_row, second_row, original_row, hop_row, mid_row, target_back}
+use Rattle.patcher.proofs.FuncStarts.{IsStart, start_outside}
+use Rattle.patcher.proofs.MoreRows.{Carries, stands_more, moved_more, kept_row, site_row, second_row, original_row, hop_row, mid_row, target_back}
 use Rattle.patcher.proofs.Patching.{fits, patched_text, patched_layouts, spans_all}
 use Rattle.patcher.proofs.Joined.{IsStill, here_make, live_alone, live_first, live_patched, live_absent, live_joined, live_last, alone_here, names_all, laid_all}
 
@@ -80,10 +81,6 @@ record SecondCase (p : Picture) (new : Option Laid) (x : ℕ) (g : Goal) : Type 
   called : second_of p x ≡ Some func
   starts : start_of p func ≡ Some start
   goal : second_by p x (moved_to new start) ≡ Some g
-
-bound : {X Y : Type 0} (o : Option X) (f : X → Option Y) (y : Y) → option_and_then f o ≡ Some y → (x : X) × (o ≡ Some x) × (f x ≡ Some y)
-bound None f y e = absurd (cc)
-bound (Some x) f y e = (x, refl, e)
 
 mapped : {X Y : Type 0} (o : Option X) (f : X → Y) (y : Y) → option_map f o ≡ Some y → (x : X) × (o ≡ Some x) × (f x ≡ y)
 mapped None f y e = absurd (cc)
@@ -187,7 +184,8 @@ module _ (p : Picture) (k : IsKept p) (now after : List TextRange) (lives ms : L
   still_here : (a : ℕ) (h : Here) (e : live_at lives a ≡ Some h) → live_at (joined ms new) a ≡ Some (record { home = h.home; word = (still a h e).word; point = h.point })
   still_here a h e = live_joined ms new a (record { home = h.home; word = (still a h e).word; point = h.point }) (still a h e).stands
 
-  point_more : (a : ℕ) (u : Point) → c.point a ≡ Some u → d.point a ≡ Some u
+  -- a point stays
+  pub point_more : (a : ℕ) (u : Point) → c.point a ≡ Some u → d.point a ≡ Some u
   point_more a u e = by_case (point_case p (word_at now) lives a u e)
     where
       by_case : PointCase p lives a u → d.point a ≡ Some u
@@ -323,7 +321,8 @@ module _ (p : Picture) (k : IsKept p) (now after : List TextRange) (lives ms : L
       by_new None i e = absurd (cc)
       by_new (Some l) i e = let q = start_place l s t e in at_place l i q.index q.within q.at q.point
 
-  aim_point : (s : ℕ) → IsStart p s → (d.point (unwrap_or (moved_to new s) s) ≡ Some (Start s)) × (unwrap_or (moved_to new s) s < 2 ^ 64)
+  -- where a function is moved to is a Start of it, and so is where it starts
+  pub aim_point : (s : ℕ) → IsStart p s → (d.point (unwrap_or (moved_to new s) s) ≡ Some (Start s)) × (unwrap_or (moved_to new s) s < 2 ^ 64)
   aim_point s st = by_moved (moved_to new s) refl
     where
       by_moved : (o : Option ℕ) → moved_to new s ≡ o → (d.point (unwrap_or o s) ≡ Some (Start s)) × (unwrap_or o s < 2 ^ 64)
@@ -450,6 +449,20 @@ module _ (p : Picture) (k : IsKept p) (now after : List TextRange) (lives ms : L
   pub renders_on : Renders (code_of p (word_at after) (joined ms new))
   renders_on = record { starts = start_row; hops = hops; mids = mids; reads = moved_reads }
 
+  -- ---- code pointers
+  -- whoever is at an address goes on from there as before
+  pub stands_on : (a x : ℕ) → StandsFor c a x → StandsFor d a x
+  stands_on a x s = stands_more c d carries a x s
+
+  -- an address that is made in two words goes on to be made by them: they are no call
+  pub moved_on : (b x rd high : ℕ) → MovedRow c b x rd high → MovedRow d b x rd high
+  moved_on b x rd high m =
+      let r = renders.mids (b + 4) x m.mid in
+      let after = r.after in
+      let same : r.first ≡ b = omega (arith, after) in
+      let at : c.point b ≡ Some (Start x) = subst (λ a. c.point a ≡ Some (Start x)) same r.start in
+      moved_more c d carries b x at rd high (same_word b (Start x) at (no_call p k new x rd m.imm m.text)) (same_word (b + 4) (Mid x) m.mid refl) m
+
   -- ---- where the calls go
   goes : (a w r to s : ℕ) → d.word a ≡ Some w → decoded w ≡ Some (instr.Jal r (pos to -ℤ pos a)) → d.point to ≡ Some (Start s) → to < 2 ^ 64 → GoesTo d a s
   goes a w r to s e m q lt = record { rd = r; aim = pos to -ℤ pos a; word = read_is d.word a w (Some (instr.Jal r (pos to -ℤ pos a))) e m; start = rw (target_back a to lt) q }
@@ -521,7 +534,7 @@ module _ (p : Picture) (k : IsKept p) (now after : List TextRange) (lives ms : L
               let at = fresh_point a (Start x) n in
               either_more n.layout n.is_new a x s (new_word n.layout n.is_new a (Start x) n.within at) ((own n.layout n.is_new).seconds a x s at f)
 
-all_joined : (P : Laid → Type 0) (ms : List Laid) (new : Option Laid) → All P ms → ((l : Laid) → new ≡ Some l → P l) → All P (joined ms new)
+pub all_joined : (P : Laid → Type 0) (ms : List Laid) (new : Option Laid) → All P ms → ((l : Laid) → new ≡ Some l → P l) → All P (joined ms new)
 all_joined P ms None a f = a
 all_joined P ms (Some l) a f = All-push P ms l a (f l refl)
 

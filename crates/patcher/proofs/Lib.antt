@@ -1,5 +1,5 @@
 pub mod CallLists
-pub mod CallWords
+pub mod FuncStarts
 pub mod Joined
 pub mod Keeps
 pub mod Listed

@@ -31,7 +31,7 @@ unfolding read
 read_none words a e = rw e refl
 
 module _ (c d : Code) (s : Carries c d) where
-  stands_more : (a x : ℕ) → StandsFor c a x → StandsFor d a x
+  pub stands_more : (a x : ℕ) → StandsFor c a x → StandsFor d a x
   stands_more a x (at_start e) = at_start (s.point a (Start x) e)
   stands_more a x (at_hop e) = at_hop (s.point a (Hop x) e)
 
@@ -53,7 +53,8 @@ module _ (c d : Code) (s : Carries c d) where
   text_reads x i e = read_same d.text c.text x (s.text x) ∙ e
 
   module _ (a x : ℕ) (at : c.point a ≡ Some (Start x)) where
-    moved_more : (rd high : ℕ) → d.word a ≡ c.word a → d.word (a + 4) ≡ c.word (a + 4) → MovedRow c a x rd high → MovedRow d a x rd high
+    -- an address that is made in two words, both of which are the same
+    pub moved_more : (rd high : ℕ) → d.word a ≡ c.word a → d.word (a + 4) ≡ c.word (a + 4) → MovedRow c a x rd high → MovedRow d a x rd high
     moved_more rd high w v m =
         record {
           imm = m.imm;

@@ -8,6 +8,7 @@ use Rattle.image.specs.Texts.{covers, word_in, word_at}
 use Rattle.image.specs.Picture.{Picture, IsKept}
 use Rattle.layout.specs.Laid.{Laid, IsLaid, item_at, point_in, with_word}
 use Rattle.layout.specs.Points.{site_of, second_of}
+use Rattle.layout.proofs.CallWords.{site_is_jal, second_is_jalr}
 use Rattle.patcher.specs.declared.goal.Goal.{Goal}
 use Rattle.patcher.specs.declared.patches.Patch.{Patch}
 use Rattle.patcher.specs.declared.patches.Patches.{Patches}
@@ -17,7 +18,6 @@ use Rattle.patcher.specs.Patched.{HasGoal, ArePatchesOf, EachPatches, ArePatches
 use Rattle.patcher.proofs.Words.{word_first, word_later, spans_kept}
 use Rattle.patcher.proofs.PutAll.{text_untouched, text_touched, layout_untouched, layout_touched}
 use Rattle.patcher.proofs.CallLists.{goal_calls, start_called}
-use Rattle.patcher.proofs.CallWords.{site_is_jal, second_is_jalr}
 
 -- ---- words stand where ranges do
 same_get : {X Y : Type 0} (xs : List X) (ys : List Y) (i : ℕ) → length xs ≡ length ys → is_some (slice_get xs i) ≡ is_some (slice_get ys i)

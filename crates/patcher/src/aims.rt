@@ -104,7 +104,8 @@ impl Aims<'_> {
         }
     }
 
-    fn moved(&self, start: u64) -> Option<u64>
+    /// Where the new layout starts what stands at an address.
+    pub fn moved(&self, start: u64) -> Option<u64>
         ensures { result ≡ moved_to (option_copied self.now.new) start }
     {
         self.starts.get(&start).copied()

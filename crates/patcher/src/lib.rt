@@ -1,7 +1,7 @@
 //! The patcher: when a new layout is placed, the calls of text and of the live layouts are aimed anew.
 #![tactic(auto)]
 
-mod aims;
+pub mod aims;
 mod apply;
 mod calls;
 pub mod fault;

@@ -1,10 +1,13 @@
--- What an attempt that doesn't want for memory makes of a world.
-use Rattle.std.proofs.Common.{◌≡◌, ◌≢◌, Bool, true, false, List, Result, Ok, Err, refl, is_some}
+-- What an attempt that doesn't run out of memory makes of a world.
+use Rattle.std.proofs.Common.{◌≡◌, ◌≢◌, ℕ, Bool, true, false, List, Result, Ok, Err, refl, is_some}
 use Rattle.plans.specs.declared.plan.Moved.{Moved}
 use Rattle.sched_log.specs.declared.facts.Refusal.{Refusal}
 use Rattle.sched_log.specs.declared.facts.Refusal.TheVariants.{RegionFull, BranchReach, Unreadable, NoMemory}
 use Rattle.world.specs.Worlds.{Replaced}
+use Rattle.oc_base.specs.declared.fault.NoMemory.{NoMemory as Full}
 use Rattle.world.specs.Replacing.{Attempts, Replaces, over, done, refused}
+use Rattle.world.specs.Retiring.{RetiresAs, Retires}
+use Rattle.world.specs.Retiring as retiring
 
 pub replaces : (plan : List Moved) (w v : Replaced) (answer : Result Unit Refusal) → Attempts plan w (is_some w.machine.outcome) answer v → answer ≢ Err NoMemory → Replaces plan w v
 replaces plan w v answer = by_end answer (is_some w.machine.outcome) refl
@@ -17,3 +20,11 @@ replaces plan w v answer = by_end answer (is_some w.machine.outcome) refl
     by_end (Err (BranchReach at to)) false e is room = refused (BranchReach at to) (λ x. cc) e is.0 is.1
     by_end (Err (Unreadable g y)) false e is room = refused (Unreadable g y) (λ x. cc) e is.0 is.1
     by_end (Err NoMemory) false e is room = absurd (room refl)
+
+-- a retirement that is done
+pub retires : (w v : Replaced) (n : ℕ) → RetiresAs w (is_some w.machine.outcome) (Ok n) v → Retires w v
+retires w v n = by_end (is_some w.machine.outcome) refl
+  where
+    by_end : (b : Bool) → is_some w.machine.outcome ≡ b → RetiresAs w b (Ok n) v → Retires w v
+    by_end true e is = retiring.over e is.1
+    by_end false e is = retiring.done n e is

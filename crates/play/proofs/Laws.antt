@@ -1,5 +1,6 @@
 -- What a world's steps and replacements do, as runs need it.
 use Rattle.std.proofs.Common.{◌≡◌, ℕ, List}
+use Rattle.std.specs.Prelude.{None}
 use Rattle.image.specs.Picture.{Picture, IsKept}
 use Rattle.guest_sys.specs.State.{IsOrderly}
 use Rattle.plans.specs.declared.plan.Moved.{Moved}
@@ -7,9 +8,10 @@ use Rattle.machine.specs.States.{State}
 use Rattle.machine.specs.Start.{start_of}
 use Rattle.sim_laws.specs.Steps.{original_after}
 use Rattle.world.specs.Worlds.{Replaced, Related, kind_of, step_of, started}
+use Rattle.plans.specs.Given.{plan_fault}
 use Rattle.world.specs.Replacing.{Replaces}
+use Rattle.world.specs.Retiring.{Retires}
 use Rattle.world.specs.Runs.{real_kind_of, real_step_of}
-use Rattle.play.specs.Ready.{CanMove}
 
 -- the world stands for a state of the original machine, and its system is one that a run can come to
 pub record Stands (w : Replaced) (o : State) : Type 0 where
@@ -20,8 +22,10 @@ pub record Laws : Type 0 where
   pub start : (image : Picture) (input : List ℕ) → IsKept image → Stands (started image input) (start_of image input)
   pub step : (h : ℕ) (w : Replaced) (o : State) → Stands w o → Stands (step_of h w) (original_after (kind_of h w) w.image h o)
   pub real : (h : ℕ) (w : Replaced) (o : State) → Stands w o → Stands (real_step_of h w) (original_after (real_kind_of h w) w.image h o)
-  pub replaced : (plan : List Moved) (w v : Replaced) (o : State) → CanMove plan w → Replaces plan w v → Stands w o → Stands v o
+  pub replaced : (plan : List Moved) (w v : Replaced) (o : State) → plan_fault w.image plan ≡ None → Replaces plan w v → Stands w o → Stands v o
+  pub retired : (w v : Replaced) (o : State) → Retires w v → Stands w o → Stands v o
 
--- a replacement has one result
-abbrev pub OneResult : Type 0
-OneResult = (plan : List Moved) (w u v : Replaced) (o : State) → CanMove plan w → Stands w o → Replaces plan w u → Replaces plan w v → u ≡ v
+-- a replacement has one result, and so has a retirement
+pub record OneResult : Type 0 where
+  pub replaced : (plan : List Moved) (w u v : Replaced) (o : State) → Stands w o → Replaces plan w u → Replaces plan w v → u ≡ v
+  pub retired : (w u v : Replaced) → Retires w u → Retires w v → u ≡ v

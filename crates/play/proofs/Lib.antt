@@ -3,6 +3,7 @@ pub mod Decided
 pub mod Laws
 pub mod OneDecision
 pub mod OneReplacement
+pub mod OneRetirement
 pub mod OneText
 pub mod OneWord
 pub mod Originally

@@ -7,14 +7,14 @@ use Rattle.elf_read.specs.Parts.{parts_of}
 use Rattle.relocs.proofs.OneImage.{one_image}
 use Rattle.sched_log.specs.Script.{events_of, fault_of}
 use Rattle.sched_log.specs.declared.event.Event.{Event}
-use Rattle.sched_log.specs.declared.event.Event.TheVariants.{Steps, Real, Till, Given as Plan}
+use Rattle.sched_log.specs.declared.event.Event.TheVariants.{Steps, Real, Till, Given as Plan, Retire}
 use Rattle.sched_log.specs.declared.fault.ScriptFault.{ScriptFault}
 use Rattle.report.specs.declared.answer.Ended.{Ended}
 use Rattle.report.specs.declared.answer.ProgramFault.{ProgramFault}
 use Rattle.report.specs.declared.answer.ProgramFault.TheVariants as program
 use Rattle.report.specs.declared.writing.Delivery.{Delivery}
 use Rattle.world.specs.Worlds.{Replaced, started}
-use Rattle.world.specs.Runs.{Atom, a_step, a_real_step, a_replacement, IsRun}
+use Rattle.world.specs.Runs.{Atom, a_step, a_real_step, a_replacement, a_retirement, IsRun}
 use Rattle.play.specs.Events.{atoms_of, turns, Plays}
 use Rattle.play.specs.Ready.{CanObey, AreReady}
 use Rattle.play.specs.Decision.{region_in, Given, given_by, Builds, IsPlayed, RunsTo, IsRunOfBuilt, Delivers, DecidesFrom, Decides, delivery_of}
@@ -44,13 +44,15 @@ one_of_steps (a_step h ∷ more) hs ks w u v steps a b =
 one_of_steps (a_real_step h ∷ more) hs ks w u v steps a b =
     one_of_steps more a.1 b.1 a.0 u v steps a.4 (subst (λ x. IsRun more b.1 x v) (b.2 ∙ sym a.2) b.4)
 one_of_steps (a_replacement plan ∷ more) hs ks w u v steps a b = absurd steps
+one_of_steps (a_retirement ∷ more) hs ks w u v steps a b = absurd steps
 
 module _ (laws : Laws) (one : OneResult) where
   one_of_event : (e : Event) (hs ks : List ℕ) (w u v : Replaced) (o : State) → CanObey e w → Stands w o → IsRun (atoms_of e w) hs w u → IsRun (atoms_of e w) ks w v → u ≡ v
   one_of_event (Steps h n) hs ks w u v o can at a b = one_of_steps (atoms_of (Steps h n) w) hs ks w u v (steps_are n h) a b
   one_of_event (Real h n) hs ks w u v o can at a b = one_of_steps (atoms_of (Real h n) w) hs ks w u v (reals_are n h) a b
   one_of_event (Till n) hs ks w u v o can at a b = one_of_steps (turns n w) hs ks w u v (turns_are n w) a b
-  one_of_event (Plan plan) hs ks w u v o can at a b = a.4.1 ∙ one plan w a.0 b.0 o can at a.2.2 b.2.2 ∙ sym b.4.1
+  one_of_event (Plan plan) hs ks w u v o can at a b = a.4.1 ∙ one.replaced plan w a.0 b.0 o at a.2.1 b.2.1 ∙ sym b.4.1
+  one_of_event Retire hs ks w u v o can at a b = a.4.1 ∙ one.retired w a.0 b.0 a.2 b.2 ∙ sym b.4.1
 
   one_end : (es : List Event) (hs ks : List ℕ) (w u v : Replaced) (o : State) → AreReady es w → Stands w o → Plays es hs w u → Plays es ks w v → u ≡ v
   one_end [] hs ks w u v o ready at a b = a.1 ∙ sym b.1

@@ -1,6 +1,7 @@
 -- A replacement from a world has one result.
 use Rattle.std.proofs.Common.{◌≡◌, ◌≢◌, ◌⊎◌, inl, inr, ◌<◌, ◌≤◌, ◌+◌, ◌*◌, ◌^◌, ℕ, zero, suc, Bool, true, false, List, [], ◌∷◌, length, map, refl, sym, ap, subst, ◌∙◌, arith}
-use Rattle.std.specs.Prelude.{Option, Some, None, IfSome, slice_get, is_some}
+use Rattle.std.specs.Prelude.{Option, Some, None, IfSome, IsSome, All, AllPairs, slice_get, is_some}
+use Rattle.std.proofs.lemmas.List.Elements.{All-tail}
 use Rattle.std.proofs.lemmas.Bool.{cases_lt, false≢true}
 use Rattle.rv_isa.specs.declared.instr.ImmOp.TheVariants.{Addi}
 use Rattle.rv_isa.specs.declared.instr.Instr.TheVariants as instr
@@ -9,7 +10,10 @@ use Rattle.image.specs.Texts.{word_at}
 use Rattle.image.specs.Picture.{Picture}
 use Rattle.oc_base.specs.declared.range.Range.{Range}
 use Rattle.plans.specs.declared.plan.Moved.{Moved}
-use Rattle.layout.specs.Laid.{Laid}
+use Rattle.layout.specs.declared.point.Point.{Point}
+use Rattle.layout.specs.declared.point.Point.TheVariants.{Start, Hop, Mid}
+use Rattle.layout.specs.Laid.{Laid, IsLaid, item_at, point_in}
+use Rattle.layout.proofs.Places.{item_here, item_within}
 use Rattle.emit.specs.Entries.{entries_of}
 use Rattle.emit.specs.Emitted.{IsMadeOf}
 use Rattle.emit.specs.Placed as emitted
@@ -18,8 +22,8 @@ use Rattle.emit.specs.declared.entry.Made.{Made}
 use Rattle.emit.specs.declared.entry.Made.TheVariants.{Same, Jump, Branch, High, Low}
 use Rattle.patcher.specs.declared.goal.Goal.{Goal}
 use Rattle.patcher.specs.declared.goal.Goal.TheVariants as goal
-use Rattle.patcher.specs.Goals.{goal_of, site_goal, start_in, IsMade}
-use Rattle.patcher.specs.Patched.{IsSet, IsPatchedText, ArePatched, joined}
+use Rattle.patcher.specs.Goals.{goal_of, goal_at, goal_in, site_goal, start_in, IsMade}
+use Rattle.patcher.specs.Patched.{IsSet, IsPatchedText, IsPatchedLayout, ArePatched, LieApart, joined}
 use Rattle.patcher.specs.Reach as reach
 use Rattle.patcher.specs.Texts.{text_span, AreTexts}
 use Rattle.patcher.proofs.Spans.{are_texts}
@@ -125,34 +129,94 @@ one_target (Some (goal.Jump rd to)) at t u a b = a.0 ∙ sym b.0
 one_target (Some (goal.Same v)) at t u a b = absurd a
 one_target None at t u a b = absurd a
 
--- of the calls of text alone
-one_call : (p : Picture) (new also : Option Laid) (at target at' target' : ℕ) → ((x : ℕ) → goal_of p new x ≡ goal_of p also x)
-    → reach.IsFirstOut p new [] at target → reach.IsFirstOut p also [] at' target' → (at ≡ at') × (target ≡ target')
-one_call p new also at target at' target' same (inr a) b = absurd a.1.0
-one_call p new also at target at' target' same (inl a) (inr b) = absurd b.1.0
-one_call p new also at target at' target' same (inl a) (inl b) =
+-- ---- calls of live layouts
+module _ (p : Picture) (new also : Option Laid) (same : (x : ℕ) → goal_of p new x ≡ goal_of p also x) where
+  same_goal_at : (u : Option Point) → goal_at (goal_of p new) u ≡ goal_at (goal_of p also) u
+  same_goal_at (Some (Start x)) = same x
+  same_goal_at (Some (Hop x)) = refl
+  same_goal_at (Some (Mid x)) = refl
+  same_goal_at None = refl
+
+  lives_out : (ls : List Laid) (at target : ℕ) → reach.LivesOut p new ls at target → reach.LivesOut p also ls at target
+  lives_out [] at target o = o
+  lives_out (l ∷ ls) at target (inl o) = inl (subst (λ g. reach.IsOut g at target) (same_goal_at (point_in l at)) o)
+  lives_out (l ∷ ls) at target (inr o) = inr (lives_out ls at target o)
+
+-- a call of a layout is a word of it
+out_within : (p : Picture) (new : Option Laid) (l : Laid) (at target : ℕ) → IsLaid l → reach.IsOut (goal_in p new l at) at target → (l.base ≤ at) × (at < l.base + 4 * length l.words)
+out_within p new l at target laid o = by_point (point_in l at) refl o
+  where
+    by_point : (u : Option Point) → point_in l at ≡ u → reach.IsOut (goal_at (goal_of p new) u) at target → (l.base ≤ at) × (at < l.base + 4 * length l.words)
+    by_point None e o = absurd o
+    by_point (Some u) e o =
+        let some : IsSome (item_at l.base l.points at) = rw e refl in
+        let k = item_within l.base l.points at some in
+        let low = k.0 in
+        let high = k.1 in
+        let each = laid.each in
+        (low, omega (arith, low, high, each))
+
+-- layouts that lie apart have no call in common
+module _ (p : Picture) (new : Option Laid) where
+  never_both : (l : Laid) (ls : List Laid) (at t u : ℕ) → IsLaid l → All IsLaid ls → All (LieApart l) ls → reach.IsOut (goal_in p new l at) at t → reach.LivesOut p new ls at u → ⊥
+  never_both l [] at t u laid all apart o q = q
+  never_both l (m ∷ ls) at t u laid all apart o (inl q) =
+      let a = out_within p new l at t laid o in
+      let b = out_within p new m at u (all 0 m (omega arith)) q in
+      by_side (apart 0 m (omega arith)) a.0 a.1 b.0 b.1
+    where
+      by_side : LieApart l m → l.base ≤ at → at < l.base + 4 * length l.words → m.base ≤ at → at < m.base + 4 * length m.words → ⊥
+      by_side (inl k) a b c d = omega (arith, k, a, b, c, d)
+      by_side (inr k) a b c d = omega (arith, k, a, b, c, d)
+  never_both l (m ∷ ls) at t u laid all apart o (inr q) = never_both l ls at t u laid (All-tail IsLaid m ls all) (All-tail (LieApart l) m ls apart) o q
+
+  first_apart : (l : Laid) (ls : List Laid) → AllPairs LieApart (l ∷ ls) → All (LieApart l) ls
+  first_apart l ls pairs k d lt = pairs 0 (suc k) d (omega arith) (omega (arith, lt))
+
+  later_apart : (l : Laid) (ls : List Laid) → AllPairs LieApart (l ∷ ls) → AllPairs LieApart ls
+  later_apart l ls pairs i j d lt in' = pairs (suc i) (suc j) d (omega (arith, lt)) (omega (arith, in'))
+
+  one_live : (ls : List Laid) (at t u : ℕ) → All IsLaid ls → AllPairs LieApart ls → reach.LivesOut p new ls at t → reach.LivesOut p new ls at u → t ≡ u
+  one_live [] at t u all apart a b = absurd a
+  one_live (l ∷ ls) at t u all apart (inl a) (inl b) = one_target (goal_in p new l at) at t u a b
+  one_live (l ∷ ls) at t u all apart (inl a) (inr b) = absurd (never_both l ls at t u (all 0 l (omega arith)) (All-tail IsLaid l ls all) (first_apart l ls apart) a b)
+  one_live (l ∷ ls) at t u all apart (inr a) (inl b) = absurd (never_both l ls at u t (all 0 l (omega arith)) (All-tail IsLaid l ls all) (first_apart l ls apart) b a)
+  one_live (l ∷ ls) at t u all apart (inr a) (inr b) = one_live ls at t u (All-tail IsLaid l ls all) (later_apart l ls apart) a b
+
+-- the first call out of reach
+one_call : (p : Picture) (new also : Option Laid) (ls : List Laid) (at target at' target' : ℕ) → All IsLaid ls → AllPairs LieApart ls → ((x : ℕ) → goal_of p new x ≡ goal_of p also x)
+    → reach.IsFirstOut p new ls at target → reach.IsFirstOut p also ls at' target' → (at ≡ at') × (target ≡ target')
+one_call p new also ls at target at' target' all apart same (inl a) (inl b) =
     let below = a.1 at' target' (subst (λ g. reach.IsOut g at' target') (sym (same at')) b.0) in
     let above = b.1 at target (subst (λ g. reach.IsOut g at target) (same at) a.0) in
     let place : at ≡ at' = omega (arith, below, above) in
     (place, one_target (goal_of p also at') at' target target' (subst (λ x. reach.IsOut (goal_of p also x) x target) place (subst (λ g. reach.IsOut g at target) (same at) a.0)) b.0)
+one_call p new also ls at target at' target' all apart same (inl a) (inr b) = absurd (b.0 at target (subst (λ g. reach.IsOut g at target) (same at) a.0))
+one_call p new also ls at target at' target' all apart same (inr a) (inl b) = absurd (a.0 at' target' (subst (λ g. reach.IsOut g at' target') (sym (same at')) b.0))
+one_call p new also ls at target at' target' all apart same (inr a) (inr b) =
+    let there = lives_out p new also same ls at target a.1.0 in
+    let below = a.1.1 at' target' (lives_out p also new (λ x. sym (same x)) ls at' target' b.1.0) in
+    let above = b.1.1 at target there in
+    let place : at ≡ at' = omega (arith, below, above) in
+    (place, one_live p also ls at' target target' all apart (subst (λ x. reach.LivesOut p also ls x target) place there) b.1.0)
 
 -- ---- refusals
-module _ (p : Picture) (free : List Range) (plan : List Moved) where
-  one_place : (at target at' target' : ℕ) → IsOutOfReach p [] free plan at target → IsOutOfReach p [] free plan at' target' → (at ≡ at') × (target ≡ target')
+module _ (p : Picture) (lives : List Laid) (free : List Range) (plan : List Moved) (all : All IsLaid lives) (apart : AllPairs LieApart lives) where
+  one_place : (at target at' target' : ℕ) → IsOutOfReach p lives free plan at target → IsOutOfReach p lives free plan at' target' → (at ≡ at') × (target ≡ target')
   one_place at target at' target' (in_layout base some place first) (in_layout base' some' place' first') =
       let same : base' ≡ base = same_base free (size_of p plan) base' base place' place in
       one_first base (entries_of p plan) at target at' target' first (subst (λ b. emitted.IsFirstOut b (entries_of p plan) at' target') same first')
   one_place at target at' target' (in_layout base some place first) (in_call new is first') = absurd (none_out p free plan new base at target is some place first)
   one_place at target at' target' (in_call new is first) (in_layout base some place first') = absurd (none_out p free plan new base at' target' is some place first')
-  one_place at target at' target' (in_call new is first) (in_call also is' first') = one_call p new also at target at' target' (same_goals p free plan new also is is') first first'
+  one_place at target at' target' (in_call new is first) (in_call also is' first') = one_call p new also lives at target at' target' all apart (same_goals p free plan new also is is') first first'
 
   -- a plan that has no room has nothing out of reach
-  no_room : (at target : ℕ) → plan ≢ [] → fit free (size_of p plan) ≡ None → IsOutOfReach p [] free plan at target → ⊥
+  no_room : (at target : ℕ) → plan ≢ [] → fit free (size_of p plan) ≡ None → IsOutOfReach p lives free plan at target → ⊥
   no_room at target some full (in_layout base some' place first) = cc
   no_room at target some full (in_call new (no_layout e) first) = some e
   no_room at target some full (in_call new (layout_at l some' place is) first) = cc
 
-  one_why : (x y : Refusal) → x ≢ refusal.NoMemory → y ≢ refusal.NoMemory → Refuses p [] free plan x → Refuses p [] free plan y → x ≡ y
+  one_why : (x y : Refusal) → x ≢ refusal.NoMemory → y ≢ refusal.NoMemory → Refuses p lives free plan x → Refuses p lives free plan y → x ≡ y
   one_why (refusal.Unreadable g w) (refusal.Unreadable h v) room room' a b = let e = sym a ∙ b in cc
   one_why (refusal.Unreadable g w) (refusal.RegionFull n m) room room' a b = let e = b.0 in cc
   one_why (refusal.Unreadable g w) (refusal.BranchReach at to) room room' a b = let e = b.0 in cc
@@ -168,21 +232,22 @@ module _ (p : Picture) (free : List Range) (plan : List Moved) where
   one_why (refusal.BranchReach at to) refusal.NoMemory room room' a b = absurd (room' refl)
 
 -- a layout that is made is refused for nothing
-not_both : (plan : List Moved) (w u : Replaced) (why : Refusal) → why ≢ refusal.NoMemory → w.lives ≡ [] → IsReplaced plan w u → Refuses w.image w.lives w.free plan why → ⊥
-not_both plan w u (refusal.Unreadable g y) room alone is refuses = let e = is.readable in cc
-not_both plan w u (refusal.RegionFull n m) room alone is refuses = by_new is.new is.is_new
+not_both : (plan : List Moved) (w u : Replaced) (why : Refusal) → why ≢ refusal.NoMemory → IsReplaced plan w u → Refuses w.image w.lives w.free plan why → ⊥
+not_both plan w u (refusal.Unreadable g y) room is refuses = let e = is.readable in cc
+not_both plan w u (refusal.RegionFull n m) room is refuses = by_new is.new is.is_new
   where
     by_new : (new : Option Laid) → IsNew w.image w.free plan new → ⊥
     by_new new (no_layout e) = refuses.1 e
     by_new new (layout_at l some place made) = let e = refuses.2 in cc
-not_both plan w u (refusal.BranchReach at to) room alone is refuses = by_place refuses.1
+not_both plan w u (refusal.BranchReach at to) room is refuses = by_place refuses.1
   where
     by_place : IsOutOfReach w.image w.lives w.free plan at to → ⊥
     by_place (in_layout base some place first) = none_out w.image w.free plan is.new base at to is.is_new some place first
     by_place (in_call new made (inl first)) =
         is.reach.in_text at to (subst (λ g. reach.IsOut g at to) (same_goals w.image w.free plan new is.new made is.is_new at) first.0)
-    by_place (in_call new made (inr first)) = subst (λ ls. reach.LivesOut w.image new ls at to) alone first.1.0
-not_both plan w u refusal.NoMemory room alone is refuses = absurd (room refl)
+    by_place (in_call new made (inr first)) =
+        is.reach.in_lives at to (lives_out w.image new is.new (same_goals w.image w.free plan new is.new made is.is_new) w.lives at to first.1.0)
+not_both plan w u refusal.NoMemory room is refuses = absurd (room refl)
 
 -- ---- text
 set_once : (a : ℕ) (g : Option Goal) (before x y : Option ℕ) (v w : ℕ) → (is_some g ≡ true → v < 2 ^ 32) → (is_some g ≡ true → w < 2 ^ 32) → IsSet a g before x → IsSet a g before y → x ≡ Some v → y ≡ Some w → v ≡ w
@@ -201,38 +266,49 @@ one_text p new before x y texts small small' a b =
     same_text x y (are_texts x before a.spans texts).rise (are_texts y before b.spans texts).rise (a.spans ∙ sym b.spans)
     (λ at v w e f. set_once at (goal_of p new at) (word_at before at) (word_at x at) (word_at y at) v w (λ t. small at v t e) (λ t. small' at w t f) (a.words at) (b.words at) e f)
 
-no_older : (p : Picture) (new : Option Laid) (lives older : List Laid) → lives ≡ [] → ArePatched p new lives older → older ≡ []
-no_older p new [] [] none is = refl
-no_older p new [] (m ∷ ms) none is = absurd is
-no_older p new (l ∷ ls) older none is = absurd (cc)
+-- ---- live layouts
+one_layout : (p : Picture) (new : Option Laid) (l x y : Laid) → SmallLayout x → SmallLayout y → IsPatchedLayout p new l x → IsPatchedLayout p new l y → x ≡ y
+one_layout p new l x y small small' a b =
+    let base : x.base ≡ y.base = a.base ∙ sym b.base in
+    let size : length x.words ≡ length y.words = a.size ∙ sym b.size in
+    let words : x.words ≡ y.words = same_items x.words y.words size (λ k v w e f.
+    let at : ℕ = l.base + 4 * k in
+    set_once at (goal_in p new l at) (item_at l.base l.words at) (item_at x.base x.words at) (item_at y.base y.words at) v w (λ t. small k v e) (λ t. small' k w f) (a.words at) (b.words at)
+    (ap (λ n. item_at n x.words (l.base + 4 * k)) a.base ∙ item_here l.base x.words k ∙ e)
+    (ap (λ n. item_at n y.words (l.base + 4 * k)) b.base ∙ item_here l.base y.words k ∙ f)) in
+    let points : x.points ≡ y.points = a.points ∙ sym b.points in
+    let sites : x.sites ≡ y.sites = a.sites ∙ sym b.sites in
+    let pairs : x.pairs ≡ y.pairs = a.pairs ∙ sym b.pairs in
+    λ i. record { base = base i; words = words i; points = points i; sites = sites i; pairs = pairs i }
+
+one_older : (p : Picture) (new : Option Laid) (ls xs ys : List Laid) → All SmallLayout xs → All SmallLayout ys → ArePatched p new ls xs → ArePatched p new ls ys → xs ≡ ys
+one_older p new [] [] [] small small' a b = refl
+one_older p new [] [] (y ∷ ys) small small' a b = absurd b
+one_older p new [] (x ∷ xs) ys small small' a b = absurd a
+one_older p new (l ∷ ls) [] ys small small' a b = absurd a
+one_older p new (l ∷ ls) (x ∷ xs) [] small small' a b = absurd b
+one_older p new (l ∷ ls) (x ∷ xs) (y ∷ ys) small small' a b =
+    ap (λ z. z ∷ xs) (one_layout p new l x y (small 0 x (omega arith)) (small' 0 y (omega arith)) a.0 b.0)
+    ∙ ap (λ zs. y ∷ zs) (one_older p new ls xs ys (All-tail SmallLayout x xs small) (All-tail SmallLayout y ys small') a.1 b.1)
 
 -- ---- all of it
-one_done : (plan : List Moved) (w u v : Replaced) → w.lives ≡ [] → AreTexts w.text → (a : IsReplaced plan w u) → (b : IsReplaced plan w v)
-    → SmallCalls w.image a.new a.text → SmallCalls w.image b.new b.text → IfSome a.new SmallLayout → IfSome b.new SmallLayout → u ≡ v
-one_done plan w u v alone texts a b small small' thin thin' =
-    let new : a.new ≡ b.new = one_new w.image w.free plan a.new b.new thin thin' a.is_new b.is_new in
-    let text : a.text ≡ b.text = one_text w.image a.new w.text a.text b.text texts small (subst (λ n. SmallCalls w.image n b.text) (sym new) small') a.in_text (subst (λ n. IsPatchedText w.image n w.text b.text) (sym new) b.in_text) in
-    let older : a.older ≡ b.older = no_older w.image a.new w.lives a.older alone a.in_lives ∙ sym (no_older w.image b.new w.lives b.older alone b.in_lives) in
+one_done : (plan : List Moved) (w u v : Replaced) → AreTexts w.text → IsReplaced plan w u → IsReplaced plan w v → u ≡ v
+one_done plan w u v texts a b =
+    let new : a.new ≡ b.new = one_new w.image w.free plan a.new b.new a.short_words b.short_words a.is_new b.is_new in
+    let text : a.text ≡ b.text = one_text w.image a.new w.text a.text b.text texts a.short_calls (subst (λ n. SmallCalls w.image n b.text) (sym new) b.short_calls) a.in_text (subst (λ n. IsPatchedText w.image n w.text b.text) (sym new) b.in_text) in
+    let older : a.older ≡ b.older = one_older w.image a.new w.lives a.older b.older a.short_older b.short_older a.in_lives (subst (λ n. ArePatched w.image n w.lives b.older) (sym new) b.in_lives) in
     a.is ∙ rw (new, text, older) (sym b.is)
 
--- the words that a replacement makes have 32 bits
-abbrev pub MadeSmall : (plan : List Moved) (w u : Replaced) → IsReplaced plan w u → Type 0
-MadeSmall plan w u a = SmallCalls w.image a.new a.text × IfSome a.new SmallLayout
-
-pub one_replacement : (plan : List Moved) (w u v : Replaced) → ((x : Replaced) (a : IsReplaced plan w x) → MadeSmall plan w x a) → w.lives ≡ [] → AreTexts w.text
+pub one_replacement : (plan : List Moved) (w u v : Replaced) → All IsLaid w.lives → AllPairs LieApart w.lives → AreTexts w.text
     → Replaces plan w u → Replaces plan w v → u ≡ v
-one_replacement plan w u v small alone texts (over e is) (over f is') = is ∙ sym is'
-one_replacement plan w u v small alone texts (over e is) (done f b) = absurd (false≢true (sym f ∙ e))
-one_replacement plan w u v small alone texts (over e is) (refused why room f refuses is') = absurd (false≢true (sym f ∙ e))
-one_replacement plan w u v small alone texts (done e a) (over f is') = absurd (false≢true (sym e ∙ f))
-one_replacement plan w u v small alone texts (done e a) (done f b) =
-    let p = small u a in
-    let q = small v b in
-    one_done plan w u v alone texts a b p.0 q.0 p.1 q.1
-one_replacement plan w u v small alone texts (done e a) (refused why room f refuses is') = absurd (not_both plan w u why room alone a refuses)
-one_replacement plan w u v small alone texts (refused why room e refuses is) (over f is') = absurd (false≢true (sym e ∙ f))
-one_replacement plan w u v small alone texts (refused why room e refuses is) (done f b) = absurd (not_both plan w v why room alone b refuses)
-one_replacement plan w u v small alone texts (refused why room e refuses is) (refused why' room' f refuses' is') =
-    let same : why ≡ why' = one_why w.image w.free plan why why' room room'
-    (subst (λ ls. Refuses w.image ls w.free plan why) alone refuses) (subst (λ ls. Refuses w.image ls w.free plan why') alone refuses') in
+one_replacement plan w u v all apart texts (over e is) (over f is') = is ∙ sym is'
+one_replacement plan w u v all apart texts (over e is) (done f b) = absurd (false≢true (sym f ∙ e))
+one_replacement plan w u v all apart texts (over e is) (refused why room f refuses is') = absurd (false≢true (sym f ∙ e))
+one_replacement plan w u v all apart texts (done e a) (over f is') = absurd (false≢true (sym e ∙ f))
+one_replacement plan w u v all apart texts (done e a) (done f b) = one_done plan w u v texts a b
+one_replacement plan w u v all apart texts (done e a) (refused why room f refuses is') = absurd (not_both plan w u why room a refuses)
+one_replacement plan w u v all apart texts (refused why room e refuses is) (over f is') = absurd (false≢true (sym e ∙ f))
+one_replacement plan w u v all apart texts (refused why room e refuses is) (done f b) = absurd (not_both plan w v why room b refuses)
+one_replacement plan w u v all apart texts (refused why room e refuses is) (refused why' room' f refuses' is') =
+    let same : why ≡ why' = one_why w.image w.lives w.free plan all apart why why' room room' refuses refuses' in
     is ∙ ap (λ y. refused_as y w) same ∙ sym is'

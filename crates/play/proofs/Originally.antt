@@ -1,5 +1,5 @@
 -- A run whose code is moved is one of the original machine.
-use Rattle.std.proofs.Common.{◌≡◌, ℕ, zero, suc, Bool, true, false, not, List, [], ◌∷◌, ◌++◌, length, replicate, refl, sym, ap, subst, ◌∙◌, arith}
+use Rattle.std.proofs.Common.{◌≡◌, ℕ, zero, suc, Bool, true, false, not, List, [], ◌∷◌, ◌++◌, length, take, drop, replicate, refl, sym, ap, subst, ◌∙◌, arith}
 use Rattle.std.specs.Prelude.{Option, Some, None, ◌==◌, ◌&&◌, is_some, slice_get, sum_by, if◌then◌else◌}
 use Rattle.std.specs.List.{range_with_len}
 use Rattle.std.proofs.lemmas.List.Sums.{sum_by-cons}
@@ -9,6 +9,7 @@ use Rattle.rv_isa.specs.declared.instr.Instr.{Instr}
 use Rattle.rv_isa.specs.declared.instr.Instr.TheVariants as instr
 use Rattle.image.specs.Picture.{Picture}
 use Rattle.layout.specs.declared.point.Point.TheVariants.{Start}
+use Rattle.layout.specs.Laid.{Laid}
 use Rattle.layout.specs.Points.{live_at, in_range, here_point, read}
 use Rattle.machine.specs.States.{State}
 use Rattle.machine.specs.Harts.{is_live, hart_in}
@@ -16,7 +17,7 @@ use Rattle.machine.specs.Steps.{original_step, original_run}
 use Rattle.machine.proofs.Stays.{run_append, stays}
 use Rattle.sched_log.specs.Script.{plan_count}
 use Rattle.sched_log.specs.declared.event.Event.{Event}
-use Rattle.sched_log.specs.declared.event.Event.TheVariants.{Steps, Real, Till, Given}
+use Rattle.sched_log.specs.declared.event.Event.TheVariants.{Steps, Real, Till, Given, Retire}
 use Rattle.sim_laws.specs.declared.stepped.Stepped.{Stepped}
 use Rattle.sim_laws.specs.declared.stepped.Stepped.TheVariants as kind
 use Rattle.sim_laws.specs.Origins.{is_moved_address, is_layout_point, is_layout_step}
@@ -24,12 +25,14 @@ use Rattle.sim_laws.specs.Related.{Both}
 use Rattle.sim_laws.specs.Steps.{original_after, is_layout, stepped}
 use Rattle.sim_laws.proofs.HartLists.{no_left, no_right}
 use Rattle.world.specs.Worlds.{Replaced, kind_of, step_of, code_of}
-use Rattle.world.specs.Runs.{Atom, a_step, a_real_step, a_replacement, IsRun, of_real, real_kind_of, real_step_of, until_real, stretch}
+use Rattle.world.specs.Retiring.{without, Retires}
+use Rattle.world.specs.Retiring as retiring
+use Rattle.world.specs.Runs.{Atom, a_step, a_real_step, a_replacement, a_retirement, IsRun, of_real, real_kind_of, real_step_of, until_real, stretch}
 use Rattle.play.specs.Events.{harts_in, stretched, turns, atoms_of, Plays}
 use Rattle.play.specs.Schedule as original
 use Rattle.play.specs.Ready.{CanObey, AreReady}
 use Rattle.play.proofs.Laws.{Stands, Laws}
-use Rattle.play.proofs.ReadyNext.{step_unmoved, real_unmoved, AreSteps, steps_are, reals_are, turns_are, run_unmoved, replaced_image, ready_next, can_obey}
+use Rattle.play.proofs.ReadyNext.{step_unmoved, real_unmoved, AreSteps, steps_are, reals_are, turns_are, run_unmoved, retired_image, event_image, ready_next, can_obey}
 
 -- what the original machine does meanwhile is its run of the harts of the real steps
 meanwhile : (k : Stepped) (p : Picture) (h : ℕ) (o : State) → original_after k p h o ≡ original_run p (of_real k h) o
@@ -89,6 +92,19 @@ going_is w h none going = by_live (is_live (hart_in w.machine.harts h).status)
     by_live true = rw (going, no_layout_at w (hart_in w.machine.harts h).pc none) refl
     by_live false = rw (going) refl
 
+-- of no layouts none is left
+without_none : (ks : List ℕ) → without {A = Laid} ks [] ≡ []
+without_none [] = refl
+without_none (k ∷ ks) = rw (without_none ks) (none_of k)
+  where
+    none_of : (k : ℕ) → take k [] ++ drop {A = Laid} (k + 1) [] ≡ []
+    none_of zero = refl
+    none_of (suc k) = refl
+
+none_left : (w v : Replaced) → Retires w v → w.lives ≡ [] → v.lives ≡ []
+none_left w v (retiring.over ended is) none = ap (λ (x : Replaced). x.lives) is ∙ none
+none_left w v (retiring.done n goes is) none = ap (λ (x : Replaced). x.lives) is.is ∙ ap (without is.gone) none ∙ without_none is.gone
+
 module _ (laws : Laws) where
   -- ---- any run
   -- a step, and what comes after it
@@ -111,6 +127,7 @@ module _ (laws : Laws) where
       let next : Stands r.0 (original_after (real_kind_of h w) w.image h o) = subst (λ x. Stands x (original_after (real_kind_of h w) w.image h o)) (sym r.2) (laws.real h w o at) in
       rw (r.3) (then_follows (real_kind_of h w) h w r.0 v r.1 o same (λ o at. steps_follow more r.1 r.0 v o steps r.4 at) next)
   steps_follow (a_replacement plan ∷ more) hs w v o steps r at = absurd steps
+  steps_follow (a_retirement ∷ more) hs w v o steps r at = absurd steps
 
   pub event_follows : (e : Event) (hs : List ℕ) (w v : Replaced) (o : State) → CanObey e w → IsRun (atoms_of e w) hs w v → Stands w o → Stands v (original_run w.image hs o)
   event_follows (Steps h n) hs w v o can r at = steps_follow (replicate n (a_step h)) hs w v o (steps_are n h) r at
@@ -118,14 +135,10 @@ module _ (laws : Laws) where
   event_follows (Till n) hs w v o can r at = steps_follow (turns n w) hs w v o (turns_are n w) r at
   event_follows (Given plan) hs w v o can r at =
       let later : hs ≡ [] = r.3 ∙ r.4.0 in
-      rw (later) (subst (λ x. Stands x o) (sym r.4.1) (laws.replaced plan w r.0 o can r.2.2 at))
-
-  -- the image is the same after any event
-  event_image : (e : Event) (hs : List ℕ) (w v : Replaced) → IsRun (atoms_of e w) hs w v → v.image ≡ w.image
-  event_image (Steps h n) hs w v r = (run_unmoved (replicate n (a_step h)) hs w v (steps_are n h) r).image
-  event_image (Real h n) hs w v r = (run_unmoved (replicate n (a_real_step h)) hs w v (reals_are n h) r).image
-  event_image (Till n) hs w v r = (run_unmoved (turns n w) hs w v (turns_are n w) r).image
-  event_image (Given plan) hs w v r = ap (λ (x : Replaced). x.image) r.4.1 ∙ replaced_image plan w r.0 r.2.2
+      rw (later) (subst (λ x. Stands x o) (sym r.4.1) (laws.replaced plan w r.0 o r.2.0 r.2.1 at))
+  event_follows Retire hs w v o can r at =
+      let later : hs ≡ [] = r.3 ∙ r.4.0 in
+      rw (later) (subst (λ x. Stands x o) (sym r.4.1) (laws.retired w r.0 o r.2 at))
 
   pub plays_follow : (es : List Event) (hs : List ℕ) (w v : Replaced) (o : State) → AreReady es w → Plays es hs w v → Stands w o → Stands v (original_run w.image hs o)
   plays_follow [] hs w v o ready r at = rw (r.0, r.1) at
@@ -202,12 +215,17 @@ module _ (laws : Laws) where
       rw (run_append w.image (original.turn o) (original.turns w.image n x) o)
       (next_plainly w u v x (original.turns w.image n x) one (subst (λ p. Plainly u v (original_run u.image (original.turns p n x) x)) one.image two))
 
+  -- where no layout is live, none is given up
+  retired_plainly : (w v : Replaced) (o : State) → Retires w v → w.lives ≡ [] → Stands w o → Plainly w v o
+  retired_plainly w v o is none at = record { image = retired_image w v is; lives = none_left w v is none; related = laws.retired w v o is at }
+
   event_plainly : (e : Event) (hs : List ℕ) (w v : Replaced) (o : State) → plan_count e ≡ 0 → IsRun (atoms_of e w) hs w v → w.lives ≡ [] → Stands w o
       → Plainly w v (original_run w.image (original.harts_of w.image e o) o)
   event_plainly (Steps h n) hs w v o none r lives at = steps_plainly n h hs w v o r lives at
   event_plainly (Real h n) hs w v o none r lives at = reals_plainly n h hs w v o r lives at
   event_plainly (Till n) hs w v o none r lives at = turns_plainly n hs w v o r lives at
   event_plainly (Given plan) hs w v o none r lives at = absurd (omega (arith, none))
+  event_plainly Retire hs w v o none r lives at = subst (λ x. Plainly w x o) (sym r.4.1) (retired_plainly w r.0 o r.2 lives at)
 
   pub plays_plainly : (es : List Event) (hs : List ℕ) (w v : Replaced) (o : State) → sum_by plan_count es ≡ 0 → Plays es hs w v → w.lives ≡ [] → Stands w o
       → Plainly w v (original_run w.image (original.schedule w.image es o) o)

@@ -3,17 +3,17 @@ use Rattle.std.proofs.Common.{◌≡◌, ℕ, zero, suc, ◌+◌, ◌<◌, List,
 use Rattle.std.specs.Prelude.{true, false, if◌then◌else◌, Bool}
 use Rattle.std.specs.List.{AllByRecursion}
 use Rattle.std.proofs.lemmas.List.{drop_more}
-use Rattle.std.proofs.lemmas.List.Sums.{sum_by-cons}
 use Rattle.plans.specs.declared.plan.Moved.{Moved}
 use Rattle.image.specs.Picture.{Picture}
-use Rattle.sched_log.specs.Script.{plan_count}
 use Rattle.sched_log.specs.Ranges.{AreInRange, IsInRange}
 use Rattle.sched_log.specs.declared.event.Event.{Event}
-use Rattle.sched_log.specs.declared.event.Event.TheVariants.{Steps, Real, Till, Given}
+use Rattle.sched_log.specs.declared.event.Event.TheVariants.{Steps, Real, Till, Given, Retire}
 use Rattle.sim_laws.specs.Steps.{is_layout}
 use Rattle.world.specs.Worlds.{Replaced, kind_of, step_of, started}
 use Rattle.world.specs.Replacing.{Replaces, over, done, refused}
-use Rattle.world.specs.Runs.{Atom, a_step, a_real_step, a_replacement, IsRun, stretch, until_real}
+use Rattle.world.specs.Retiring.{Retires}
+use Rattle.world.specs.Retiring as retiring
+use Rattle.world.specs.Runs.{Atom, a_step, a_real_step, a_replacement, a_retirement, IsRun, stretch, until_real}
 use Rattle.play.specs.Events.{harts_in, stretched, turns, atoms_of, Runs}
 use Rattle.play.specs.Ready.{CanObey, AreReady}
 
@@ -47,6 +47,7 @@ AreSteps [] = Unit {0}
 AreSteps (a_step h ∷ more) = AreSteps more
 AreSteps (a_real_step h ∷ more) = AreSteps more
 AreSteps (a_replacement plan ∷ more) = ⊥
+AreSteps (a_retirement ∷ more) = ⊥
 
 pub run_unmoved : (atoms : List Atom) (hs : List ℕ) (w v : Replaced) → AreSteps atoms → IsRun atoms hs w v → SameCode w v
 run_unmoved [] hs w v steps r = subst (SameCode w) (sym r.1) (unmoved w)
@@ -55,6 +56,7 @@ run_unmoved (a_step h ∷ more) hs w v steps r =
 run_unmoved (a_real_step h ∷ more) hs w v steps r =
     both_unmoved w r.0 v (subst (SameCode w) (sym r.2) (real_unmoved 3 h w)) (run_unmoved more r.1 r.0 v steps r.4)
 run_unmoved (a_replacement plan ∷ more) hs w v steps r = absurd steps
+run_unmoved (a_retirement ∷ more) hs w v steps r = absurd steps
 
 pub steps_are : (n h : ℕ) → AreSteps (replicate n (a_step h))
 steps_are zero h = tt
@@ -78,44 +80,34 @@ replaced_image plan w v (over ended is) = ap (λ (x : Replaced). x.image) is
 replaced_image plan w v (done goes is) = ap (λ (x : Replaced). x.image) is.is
 replaced_image plan w v (refused why room goes is_why is) = ap (λ (x : Replaced). x.image) is
 
+-- and so does a retirement
+retired_image : (w v : Replaced) → Retires w v → v.image ≡ w.image
+retired_image w v (retiring.over ended is) = ap (λ (x : Replaced). x.image) is
+retired_image w v (retiring.done n goes is) = ap (λ (x : Replaced). x.image) is.is
+
 -- ---- events
 pub can_obey : (e : Event) (es : List Event) (w : Replaced) → AreReady (e ∷ es) w → CanObey e w
 can_obey (Steps h n) es w ready = tt
 can_obey (Real h n) es w ready = tt
 can_obey (Till n) es w ready = tt
-can_obey (Given plan) es w ready =
-    let sum = sum_by-cons plan_count (Given plan) es in
-    record { fine = ready.each.0.1; alone = ready.alone (omega (arith, sum)) }
+can_obey (Given plan) es w ready = ready.0.1
+can_obey Retire es w ready = tt
 
--- events that move nothing leave the rest ready
-still_ready : (e : Event) (es : List Event) (w u : Replaced) → AreReady (e ∷ es) w → plan_count e ≡ 0 → SameCode w u → AreReady es u
-still_ready e es w u ready none same =
-    let sum = sum_by-cons plan_count e es in
-    let few = ready.few in
-    record {
-      each = subst (λ p. AllByRecursion (IsInRange p) es) (sym same.image) ready.each.1;
-      few = omega (arith, sum, few);
-      alone = λ some. same.lives ∙ ready.alone (omega (arith, sum, some));
-    }
+-- no event changes the image
+pub event_image : (e : Event) (hs : List ℕ) (w v : Replaced) → IsRun (atoms_of e w) hs w v → v.image ≡ w.image
+event_image (Steps h n) hs w v r = (run_unmoved (replicate n (a_step h)) hs w v (steps_are n h) r).image
+event_image (Real h n) hs w v r = (run_unmoved (replicate n (a_real_step h)) hs w v (reals_are n h) r).image
+event_image (Till n) hs w v r = (run_unmoved (turns n w) hs w v (turns_are n w) r).image
+event_image (Given plan) hs w v r = ap (λ (x : Replaced). x.image) r.4.1 ∙ replaced_image plan w r.0 r.2.1
+event_image Retire hs w v r = ap (λ (x : Replaced). x.image) r.4.1 ∙ retired_image w r.0 r.2
 
+-- so what is left of the events is ready after the first
 pub ready_next : (e : Event) (es : List Event) (w u : Replaced) → AreReady (e ∷ es) w → Runs (atoms_of e w) w u → AreReady es u
-ready_next (Steps h n) es w u ready r = still_ready (Steps h n) es w u ready refl (run_unmoved (replicate n (a_step h)) r.0 w u (steps_are n h) r.1)
-ready_next (Real h n) es w u ready r = still_ready (Real h n) es w u ready refl (run_unmoved (replicate n (a_real_step h)) r.0 w u (reals_are n h) r.1)
-ready_next (Till n) es w u ready r = still_ready (Till n) es w u ready refl (run_unmoved (turns n w) r.0 w u (turns_are n w) r.1)
-ready_next (Given plan) es w u ready r =
-    let run : IsRun (a_replacement plan ∷ []) r.0 w u = r.1 in
-    let same : u.image ≡ w.image = ap (λ (x : Replaced). x.image) run.4.1 ∙ replaced_image plan w run.0 run.2.2 in
-    let sum = sum_by-cons plan_count (Given plan) es in
-    let few = ready.few in
-    record {
-      each = subst (λ p. AllByRecursion (IsInRange p) es) (sym same) ready.each.1;
-      few = omega (arith, sum, few);
-      alone = λ some. absurd (omega (arith, sum, some, few));
-    }
+ready_next e es w u ready r = subst (λ p. AllByRecursion (IsInRange p) es) (sym (event_image e r.0 w u r.1)) ready.1
 
 -- a script's events at the start
 pub ready_first : (image : Picture) (input : List ℕ) (events : List Event) → AreInRange image events → AreReady events (started image input)
-ready_first image input events range = record { each = range.each; few = range.plans; alone = λ some. refl }
+ready_first image input events range = range.each
 
 -- ---- places in a list of events
 pub can_obey_at : (es : List Event) (i : ℕ) (d : Event) (w : Replaced) → i < length es → AreReady (drop i es) w → CanObey (get_or es i d) w

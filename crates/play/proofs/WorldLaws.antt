@@ -16,12 +16,15 @@ use Rattle.sim_laws.specs.Steps.{original_after, is_layout}
 use Rattle.sim_laws.proofs.Orderly.{replaced_orderly, start_orderly}
 use Rattle.world.specs.Worlds.{Replaced, Related, started, kind_of, step_of, code_of}
 use Rattle.world.specs.Replacing.{IsReplaced, Replaces, over, done, refused}
+use Rattle.world.specs.Retiring.{Retires}
+use Rattle.world.specs.Retiring as retiring
 use Rattle.world.specs.Runs.{until_real, real_kind_of, real_step_of}
 use Rattle.world.proofs.Following.{step_follows, never_layout, real_over, real_follows}
-use Rattle.world.proofs.Running.{replaces_related}
+use Rattle.world.proofs.Running.{replaces_related, retires_related}
 use Rattle.world.proofs.Starting.{started_related}
 use Rattle.play.proofs.Laws.{Stands, Laws, OneResult}
-use Rattle.play.proofs.OneReplacement.{MadeSmall, one_replacement}
+use Rattle.play.proofs.OneReplacement.{one_replacement}
+use Rattle.play.proofs.OneRetirement.{one_retirement}
 
 step_orderly : (h : ℕ) (w : Replaced) → IsOrderly w.machine.system → IsOrderly (step_of h w).machine.system
 unfolding step_of
@@ -59,11 +62,15 @@ real_law h w o at = record {
   orderly = until_orderly 3 h w at.orderly;
 }
 
--- a replacement leaves the machine
-replaced_machine : (plan : List Moved) (w v : Replaced) → Replaces plan w v → v.machine ≡ w.machine
-replaced_machine plan w v (over ended is) = ap (λ (x : Replaced). x.machine) is
-replaced_machine plan w v (done goes is) = ap (λ (x : Replaced). x.machine) is.is
-replaced_machine plan w v (refused why room goes is_why is) = ap (λ (x : Replaced). x.machine) is
+-- a change of code leaves the system
+replaced_system : (plan : List Moved) (w v : Replaced) → Replaces plan w v → v.machine.system ≡ w.machine.system
+replaced_system plan w v (over ended is) = ap (λ (x : Replaced). x.machine.system) is
+replaced_system plan w v (done goes is) = ap (λ (x : Replaced). x.machine.system) is.is
+replaced_system plan w v (refused why room goes is_why is) = ap (λ (x : Replaced). x.machine.system) is
+
+retired_system : (w v : Replaced) → Retires w v → v.machine.system ≡ w.machine.system
+retired_system w v (retiring.over ended is) = ap (λ (x : Replaced). x.machine.system) is
+retired_system w v (retiring.done n goes is) = ap (λ (x : Replaced). x.machine.system) is.is
 
 texts_of : (w : Replaced) (o : State) → Stands w o → AreTexts w.text
 texts_of w o at =
@@ -75,16 +82,18 @@ laws = record {
   start = start_law;
   step = step_law;
   real = real_law;
-  replaced = λ plan w v o can is at. record {
-    related = replaces_related plan w v o can.fine can.alone is at.related;
-    orderly = subst (λ m. IsOrderly m.system) (sym (replaced_machine plan w v is)) at.orderly;
+  replaced = λ plan w v o fine is at. record {
+    related = replaces_related plan w v o fine is at.related;
+    orderly = subst IsOrderly (sym (replaced_system plan w v is)) at.orderly;
+  };
+  retired = λ w v o is at. record {
+    related = retires_related w v o is at.related;
+    orderly = subst IsOrderly (sym (retired_system w v is)) at.orderly;
   };
 }
 
-module _ (small : (plan : List Moved) (w v : Replaced) (made : IsReplaced plan w v) → MadeSmall plan w v made) where
-  pub one_by : OneResult
-  one_by plan w u v o can at a b = one_replacement plan w u v (small plan w) can.alone (texts_of w o at) a b
-
--- the words of a replacement have 32 bits
 pub one_result : OneResult
-one_result = one_by (λ plan w v made. (made.short_calls, made.short_words))
+one_result = record {
+  replaced = λ plan w u v o at a b. one_replacement plan w u v at.related.sound.placed.laid at.related.sound.apart (texts_of w o at) a b;
+  retired = one_retirement;
+}

@@ -2,9 +2,9 @@
 use Rattle.std.specs.Prelude.{◌≡◌, ℕ, zero, suc, List, [], ◌∷◌, ◌++◌, length, replicate}
 use Rattle.std.specs.List.{range_with_len}
 use Rattle.sched_log.specs.declared.event.Event.{Event}
-use Rattle.sched_log.specs.declared.event.Event.TheVariants.{Steps, Real, Till, Given}
+use Rattle.sched_log.specs.declared.event.Event.TheVariants.{Steps, Real, Till, Given, Retire}
 use Rattle.world.specs.Worlds.{Replaced}
-use Rattle.world.specs.Runs.{Atom, a_step, a_real_step, a_replacement, real_step_of, stretch, IsRun}
+use Rattle.world.specs.Runs.{Atom, a_step, a_real_step, a_replacement, a_retirement, real_step_of, stretch, IsRun}
 
 -- the harts that are there, ascending
 abbrev pub harts_in : Replaced → List ℕ
@@ -26,6 +26,7 @@ atoms_of (Steps h n) w = replicate n (a_step h)
 atoms_of (Real h n) w = replicate n (a_real_step h)
 atoms_of (Till n) w = turns n w
 atoms_of (Given plan) w = a_replacement plan ∷ []
+atoms_of Retire w = a_retirement ∷ []
 
 -- the world v is w after these events in turn, and these are the harts of the real steps
 abbrev pub Plays : List Event → List ℕ → Replaced → Replaced → Type 0

@@ -6,7 +6,7 @@ use Rattle.machine.specs.States.{State}
 use Rattle.machine.specs.Start.{start_of}
 use Rattle.machine.specs.Steps.{original_run}
 use Rattle.sched_log.specs.declared.event.Event.{Event}
-use Rattle.sched_log.specs.declared.event.Event.TheVariants.{Steps, Real, Till, Given}
+use Rattle.sched_log.specs.declared.event.Event.TheVariants.{Steps, Real, Till, Given, Retire}
 
 -- one turn: each hart that is there at its start, ascending
 abbrev pub turn : State → List ℕ
@@ -23,6 +23,7 @@ harts_of image (Steps h n) s = replicate n h
 harts_of image (Real h n) s = replicate n h
 harts_of image (Till n) s = turns image n s
 harts_of image (Given plan) s = []
+harts_of image Retire s = []
 
 -- the harts that the events let step, in order
 abbrev pub schedule : Picture → List Event → State → List ℕ

@@ -1,12 +1,14 @@
 //! Events, done one after the other.
 
-ghost use Rattle.std.specs.Prelude.{◌≡◌, replicate, OnOk, IfOk};
+ghost use Rattle.std.specs.Prelude.{◌≡◌, None, replicate, OnOk, IfOk};
+ghost use Rattle.plans.specs.Given.{plan_fault};
 ghost use Rattle.sched_log.specs.Ranges.{AreInRange};
 ghost use Rattle.world.specs.Runs.{a_step, real_steps_of};
 ghost use Rattle.world.specs.Replacing.{Replaces};
+ghost use Rattle.world.specs.Retiring.{Retires};
 ghost use Rattle.world.specs.Worlds.{started};
 ghost use Rattle.play.specs.Events.{harts_in, stretched, turns, atoms_of, Runs, Played};
-ghost use Rattle.play.specs.Ready.{CanMove, CanObey, AreReady};
+ghost use Rattle.play.specs.Ready.{CanObey, AreReady};
 
 use image::picture::Image;
 use oc_base::fault::NoMemory;
@@ -54,7 +56,7 @@ fn take_turns(world: &mut World, count: u64) -> Result<(), NoMemory>
 
 // Moves the functions of a plan. A refusal is counted by the world, and the run goes on.
 fn replace(world: &mut World, plan: &Plan) -> Result<(), NoMemory>
-    requires { CanMove plan.now world.old }
+    requires { plan_fault world.old.image plan.now ≡ None }
     ensures { OnOk result (Replaces plan.now world.old world.new) }
 {
     match world.replace(plan) {
@@ -64,6 +66,14 @@ fn replace(world: &mut World, plan: &Plan) -> Result<(), NoMemory>
         Err(Refusal::BranchReach { .. }) => Ok(()),
         Err(Refusal::Unreadable { .. }) => Ok(()),
     }
+}
+
+// Gives up the layouts that nothing refers to.
+fn retire(world: &mut World) -> Result<(), NoMemory>
+    ensures { OnOk result (Retires world.old world.new) }
+{
+    world.retire()?;
+    Ok(())
 }
 
 // What an event asks for.
@@ -76,6 +86,7 @@ fn obey(world: &mut World, event: &Event) -> Result<(), NoMemory>
         Event::Real { h, n } => world.run(*h, *n),
         Event::Till { n } => take_turns(world, *n),
         Event::Given(plan) => replace(world, plan),
+        Event::Retire => retire(world),
     }
 }
 
@@ -86,7 +97,6 @@ fn obey_all(world: &mut World, events: &[Event]) -> Result<(), NoMemory>
 {
     for event in events {
         obey(world, event)?;
-        world.kept();
     }
     Ok(())
 }

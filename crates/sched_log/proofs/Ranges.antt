@@ -5,8 +5,8 @@ use Rattle.std.specs.List.{AllByRecursion}
 use Rattle.std.proofs.lemmas.List.Sums.{sum_by-append}
 use Rattle.image.specs.Picture.{Picture}
 use Rattle.sched_log.specs.Ranges.{IsInRange, HasRange, AreInRange}
-use Rattle.sched_log.specs.Script.{count, count_of, plan_count, plans_of, event_of}
-use Rattle.sched_log.specs.Limits.{count_limit, plan_limit}
+use Rattle.sched_log.specs.Script.{count, count_of, event_of}
+use Rattle.sched_log.specs.Limits.{count_limit}
 use Rattle.sched_log.specs.declared.line.Line.{Line}
 use Rattle.sched_log.specs.declared.line.Line.TheVariants.{Passed, Does, End, Wrong}
 use Rattle.sched_log.specs.declared.event.Event.{Event}
@@ -27,17 +27,8 @@ one_sum Passed = omega arith
 one_sum End = omega arith
 one_sum (Wrong kind) = omega arith
 
-one_plan : (line : Line) → sum_by plan_count (event_of line) ≡ plans_of line
-one_plan (Does e) = omega arith
-one_plan Passed = omega arith
-one_plan End = omega arith
-one_plan (Wrong kind) = omega arith
-
 pub sums_later : (events more : List Event) (line : Line) (sum : ℕ) → sum_by count events ≡ sum → more ≡ events ++ event_of line → sum_by count more ≡ sum + count_of line
 sums_later events more line sum is pushed = ap (sum_by count) pushed ∙ omega (arith, sum_by-append count events (event_of line), one_sum line, is)
 
-pub plans_later : (events more : List Event) (line : Line) (plans : ℕ) → sum_by plan_count events ≡ plans → more ≡ events ++ event_of line → sum_by plan_count more ≡ plans + plans_of line
-plans_later events more line plans is pushed = ap (sum_by plan_count) pushed ∙ omega (arith, sum_by-append plan_count events (event_of line), one_plan line, is)
-
-pub in_range : (p : Picture) (events : List Event) (plans sum : ℕ) → AllByRecursion (IsInRange p) events → sum_by plan_count events ≡ plans → plans ≤ plan_limit → sum_by count events ≡ sum → sum ≤ count_limit → AreInRange p events
-in_range p events plans sum each is_plans few is small = record { each = each; sum = omega (arith, is, small); plans = omega (arith, is_plans, few) }
+pub in_range : (p : Picture) (events : List Event) (sum : ℕ) → AllByRecursion (IsInRange p) events → sum_by count events ≡ sum → sum ≤ count_limit → AreInRange p events
+in_range p events sum each is small = record { each = each; sum = omega (arith, is, small) }

@@ -14,7 +14,7 @@ use Rattle.sched_log.specs.Plans.{words}
 use Rattle.sched_log.specs.Lines.{line_of, plan_line, by_words, command, moves, of_hart}
 use Rattle.image.specs.Picture.{Picture, IsKept}
 use Rattle.plans.specs.declared.plan.Moved.{Moved}
-use Rattle.sched_log.specs.Script.{count, plan_count, event_of, kind_of, fault_of, events_of, script}
+use Rattle.sched_log.specs.Script.{count, event_of, kind_of, fault_of, events_of, script}
 use Rattle.sched_log.specs.Printed.{spaced, plan_text, line_text, terminated, printed, ReadsAs}
 use Rattle.sched_log.specs.Ranges.{IsInRange, AreInRange, IsShort}
 use Rattle.sched_log.proofs.PlanBack.{plan_back, plan_without}
@@ -23,7 +23,7 @@ use Rattle.sched_log.proofs.Steps.{faults_from, fault_start}
 use Rattle.sched_log.specs.declared.line.Line.{Line}
 use Rattle.sched_log.specs.declared.line.Line.TheVariants.{Does, End}
 use Rattle.sched_log.specs.declared.event.Event.{Event}
-use Rattle.sched_log.specs.declared.event.Event.TheVariants.{Steps, Real, Till, Given}
+use Rattle.sched_log.specs.declared.event.Event.TheVariants.{Steps, Real, Till, Given, Retire}
 
 -- the words of a line
 two_words : (name : List ℕ) (n : ℕ) → All (λ b. eqb b 32 ≡ false) name → n < 2 ^ 64 → slice_split (λ b. eqb b 32) (spaced name (decimal n)) ≡ name ∷ decimal n ∷ []
@@ -47,6 +47,9 @@ till_without c low = All-from_recursion (λ b. eqb b c ≡ false) (codes "till")
 
 replace_one : IsOneLine (codes "replace")
 replace_one = All-from_recursion (λ b. eqb b 10 ≡ false) (codes "replace") (refl, (refl, (refl, (refl, (refl, (refl, (refl, tt)))))))
+
+retire_one : IsOneLine (codes "retire")
+retire_one = All-from_recursion (λ b. eqb b 10 ≡ false) (codes "retire") (refl, (refl, (refl, (refl, (refl, (refl, tt))))))
 
 end_one : IsOneLine (codes "end")
 end_one = All-from_recursion (λ b. eqb b 10 ≡ false) (codes "end") (refl, (refl, (refl, tt)))
@@ -85,6 +88,11 @@ planned_line p (m ∷ ms) is some =
     let long : eqb (length (codes "replace" ++ plan_text (m ∷ ms))) 0 ≡ false = ne_eqb (length (codes "replace" ++ plan_text (m ∷ ms))) 0 (λ e. omega (arith, e, length-append (codes "replace") (plan_text (m ∷ ms)))) in
     rw long is
 
+-- a line of one word
+retire_line : (p : Picture) → line_of p (codes "retire") ≡ Does Retire
+unfolding line_of command
+retire_line p = refl
+
 line_back : (p : Picture) (e : Event) → IsKept p → IsShort e → IsInRange p e → line_of p (line_text e) ≡ Does e
 line_back p (Steps h n) kept short w = begun p _ _ _ _ refl refl (three_words (codes "steps") h n (steps_without 32 (omega arith)) (omega (arith, w.0)) (omega (arith, w.1)))
     (steps_read (decimal h) (decimal n) _ (some_digits h (omega (arith, w.0))) (some_digits n (omega (arith, w.1))) (of_hart_read Steps h n w.0 w.1))
@@ -93,6 +101,7 @@ line_back p (Real h n) kept short w = begun p _ _ _ _ refl refl (three_words (co
 line_back p (Till n) kept short w = begun p _ _ _ _ refl refl (two_words (codes "till") n (till_without 32 (omega arith)) (omega (arith, w)))
     (till_read (decimal n) n (some_digits n (omega (arith, w))) (decimal_read n w))
 line_back p (Given ms) kept short w = planned_line p ms (plan_back p ms w.0 (written p ms kept w.1 short) w.1) w.0
+line_back p Retire kept short w = retire_line p
 
 -- each line is one line
 spaced_one : (first rest : List ℕ) → IsOneLine first → IsOneLine rest → IsOneLine (spaced first rest)
@@ -103,6 +112,7 @@ one_line p (Steps h n) kept short w = spaced_one (codes "steps") (spaced (decima
 one_line p (Real h n) kept short w = spaced_one (codes "real") (spaced (decimal h) (decimal n)) (real_without 10 (omega arith)) (spaced_one (decimal h) (decimal n) (not_in_decimal 10 h (omega arith) (omega (arith, w.0))) (not_in_decimal 10 n (omega arith) (omega (arith, w.1))))
 one_line p (Till n) kept short w = spaced_one (codes "till") (decimal n) (till_without 10 (omega arith)) (not_in_decimal 10 n (omega arith) (omega (arith, w)))
 one_line p (Given ms) kept short w = All-append (λ b. eqb b 10 ≡ false) (codes "replace") (plan_text ms) replace_one (plan_without 10 ms (λ r. omega (arith, r)) refl refl refl (written p ms kept w.1 short))
+one_line p Retire kept short w = retire_one
 
 lines_one : (p : Picture) (es : List Event) → IsKept p → AllByRecursion IsShort es → AllByRecursion (IsInRange p) es → AllByRecursion IsOneLine (map line_text es ++ codes "end" ∷ [])
 lines_one p [] kept short h = (end_one, tt)
@@ -126,20 +136,19 @@ events_in : (es : List Event) → flat_map event_of (map (λ e. Does e) es ++ En
 events_in [] = refl
 events_in (e ∷ es) = ap (λ more. e ∷ more) (events_in es)
 
-fine_event : (plans sum : ℕ) (e : Event) → plans + plan_count e ≤ 1 → sum + count e ≤ 2000000000 → kind_of false (plans + plan_count e) (sum + count e) (Does e) ≡ None
+fine_event : (sum : ℕ) (e : Event) → sum + count e ≤ 2000000000 → kind_of false (sum + count e) (Does e) ≡ None
 unfolding kind_of
-fine_event plans sum e few le = rw (le-ltb 1 (plans + plan_count e) few, le-ltb 2000000000 (sum + count e) le) refl
+fine_event sum e le = rw (le-ltb 2000000000 (sum + count e) le) refl
 
-fine_end : (plans sum : ℕ) → plans ≤ 1 → sum ≤ 2000000000 → kind_of false (plans + 0) (sum + 0) End ≡ None
+fine_end : (sum : ℕ) → sum ≤ 2000000000 → kind_of false (sum + 0) End ≡ None
 unfolding kind_of
-fine_end plans sum few le = rw (le-ltb 1 (plans + 0) (omega (arith, few)), le-ltb 2000000000 (sum + 0) (omega (arith, le))) refl
+fine_end sum le = rw (le-ltb 2000000000 (sum + 0) (omega (arith, le))) refl
 
-none_in : (es : List Event) (n plans sum : ℕ) → plans + sum_by plan_count es ≤ 1 → sum + sum_by count es ≤ 2000000000 → faults_from n false plans sum (map (λ e. Does e) es ++ End ∷ []) ≡ None
-none_in [] n plans sum few le = rw (fine_end plans sum (omega (arith, few)) (omega (arith, le))) refl
-none_in (e ∷ es) n plans sum few le =
+none_in : (es : List Event) (n sum : ℕ) → sum + sum_by count es ≤ 2000000000 → faults_from n false sum (map (λ e. Does e) es ++ End ∷ []) ≡ None
+none_in [] n sum le = rw (fine_end sum (omega (arith, le))) refl
+none_in (e ∷ es) n sum le =
     let s = sum_by-cons count e es in
-    let t = sum_by-cons plan_count e es in
-    rw (fine_event plans sum e (omega (arith, few, t)) (omega (arith, le, s))) (none_in es (n + 1) (plans + plan_count e) (sum + count e) (omega (arith, few, t)) (omega (arith, le, s)))
+    rw (fine_event sum e (omega (arith, le, s))) (none_in es (n + 1) (sum + count e) (omega (arith, le, s)))
 
 events_back : (p : Picture) (es : List Event) → IsKept p → AllByRecursion IsShort es → AllByRecursion (IsInRange p) es → events_of p (printed es) ≡ es
 unfolding events_of
@@ -148,7 +157,7 @@ events_back p es kept short h = ap (flat_map event_of) (script_back p es kept sh
 -- what is written of events in range asks for them
 pub reads_back : (p : Picture) (es : List Event) (text : List ℕ) → text ≡ printed es → IsKept p → AllByRecursion IsShort es → AreInRange p es → ReadsAs p es text
 reads_back p es text is kept short w =
-    let lines : faults_from 1 false 0 0 (script p (printed es)) ≡ None = ap (faults_from 1 false 0 0) (script_back p es kept short w.each) ∙ none_in es 1 0 0 (omega (arith, w.plans)) (omega (arith, w.sum)) in
+    let lines : faults_from 1 false 0 (script p (printed es)) ≡ None = ap (faults_from 1 false 0) (script_back p es kept short w.each) ∙ none_in es 1 0 (omega (arith, w.sum)) in
     record {
       fine = ap (fault_of p) is ∙ sym (fault_start p (printed es)) ∙ lines;
       same = ap (events_of p) is ∙ events_back p es kept short w.each;

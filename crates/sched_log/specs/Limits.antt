@@ -5,10 +5,6 @@ use Rattle.std.specs.Prelude.{ℕ}
 abbrev pub count_limit : ℕ
 count_limit = 2000000000
 
--- one layout can be live at a time
-abbrev pub plan_limit : ℕ
-plan_limit = 1
-
 -- harts are numbered from 0
 abbrev pub last_hart : ℕ
 last_hart = 63

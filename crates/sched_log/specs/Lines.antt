@@ -11,7 +11,7 @@ use Rattle.plans.specs.Given.{plan_fault}
 use Rattle.sched_log.specs.Plans.{words, any_empty, is_plan, parts_of}
 use Rattle.sched_log.specs.Limits.{last_hart, wrong_form, bad_number, no_function, not_a_plan}
 use Rattle.sched_log.specs.declared.event.Event.{Event}
-use Rattle.sched_log.specs.declared.event.Event.TheVariants.{Steps, Real, Till, Given}
+use Rattle.sched_log.specs.declared.event.Event.TheVariants.{Steps, Real, Till, Given, Retire}
 use Rattle.sched_log.specs.declared.line.Line.{Line}
 use Rattle.sched_log.specs.declared.line.Line.TheVariants.{Passed, Does, End, Wrong}
 
@@ -27,7 +27,10 @@ turns None = Wrong bad_number
 
 -- the commands by their words
 unfoldable pub command : List (List ℕ) → Line
-command (name ∷ []) = if bytes_eq name (codes "end") then End else Wrong wrong_form
+command (name ∷ []) =
+    if bytes_eq name (codes "end") then End
+    else if bytes_eq name (codes "retire") then Does Retire
+    else Wrong wrong_form
 command (name ∷ n ∷ []) = if bytes_eq name (codes "till") then turns (number_of n) else Wrong wrong_form
 command (name ∷ h ∷ n ∷ []) =
     if bytes_eq name (codes "steps") then of_hart Steps (number_of h) (number_of n)
@@ -48,7 +51,7 @@ abbrev pub with_parts : Picture → Option (List Moved) → Line
 with_parts p (Some parts) = as_plan parts (plan_fault p parts)
 with_parts p None = Wrong bad_number
 
--- a plan by what stands behind the word `replace`: its form, then its numbers, then its functions, then its blocks
+-- a plan by what comes after the word `replace`: its form, then its numbers, then its functions, then its blocks
 unfoldable pub plan_line : Picture → List ℕ → Line
 plan_line p text = if is_plan text then with_parts p (parts_of text) else Wrong wrong_form
 

@@ -4,7 +4,7 @@ use Rattle.image.specs.Picture.{Picture}
 use Rattle.plans.specs.declared.plan.Moved.{Moved}
 use Rattle.sched_log.specs.Script.{fault_of, events_of}
 use Rattle.sched_log.specs.declared.event.Event.{Event}
-use Rattle.sched_log.specs.declared.event.Event.TheVariants.{Steps, Real, Till, Given}
+use Rattle.sched_log.specs.declared.event.Event.TheVariants.{Steps, Real, Till, Given, Retire}
 
 -- words with a space (32) between them
 abbrev pub spaced : List ℕ → List ℕ → List ℕ
@@ -29,6 +29,7 @@ line_text (Steps h n) = spaced (codes "steps") (spaced (decimal h) (decimal n))
 line_text (Real h n) = spaced (codes "real") (spaced (decimal h) (decimal n))
 line_text (Till n) = spaced (codes "till") (decimal n)
 line_text (Given parts) = codes "replace" ++ plan_text parts
+line_text Retire = codes "retire"
 
 -- a line and its newline (10)
 abbrev pub terminated : List ℕ → List ℕ

@@ -4,10 +4,10 @@ use Rattle.std.specs.List.{AllByRecursion}
 use Rattle.image.specs.Picture.{Picture}
 use Rattle.plans.specs.declared.plan.Moved.{Moved}
 use Rattle.plans.specs.Given.{plan_fault}
-use Rattle.sched_log.specs.Script.{count, plan_count}
-use Rattle.sched_log.specs.Limits.{last_hart, count_limit, plan_limit}
+use Rattle.sched_log.specs.Script.{count}
+use Rattle.sched_log.specs.Limits.{last_hart, count_limit}
 use Rattle.sched_log.specs.declared.event.Event.{Event}
-use Rattle.sched_log.specs.declared.event.Event.TheVariants.{Steps, Real, Till, Given}
+use Rattle.sched_log.specs.declared.event.Event.TheVariants.{Steps, Real, Till, Given, Retire}
 use Rattle.sched_log.specs.declared.line.Line.{Line}
 use Rattle.sched_log.specs.declared.line.Line.TheVariants.{Does}
 
@@ -17,6 +17,7 @@ IsInRange p (Steps h n) = (h ≤ last_hart) × (n < 2 ^ 32)
 IsInRange p (Real h n) = (h ≤ last_hart) × (n < 2 ^ 32)
 IsInRange p (Till n) = n < 2 ^ 32
 IsInRange p (Given parts) = (0 < length parts) × (plan_fault p parts ≡ None)
+IsInRange p Retire = ⊤
 
 -- the event of a line, where it has one
 abbrev pub HasRange : Picture → Line → Type 0
@@ -35,4 +36,3 @@ IsShort _ = ⊤
 pub record AreInRange (p : Picture) (events : List Event) : Type 0 where
   pub each : AllByRecursion (IsInRange p) events
   pub sum : sum_by count events ≤ count_limit
-  pub plans : sum_by plan_count events ≤ plan_limit

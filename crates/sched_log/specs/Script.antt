@@ -5,9 +5,9 @@ use Rattle.std.specs.Option.{option_map}
 use Rattle.texts.specs.Texts.{lines_of}
 use Rattle.sched_log.specs.Lines.{line_of}
 use Rattle.image.specs.Picture.{Picture}
-use Rattle.sched_log.specs.Limits.{wrong_form, end_missing, after_end, past_limit, count_limit, plan_limit}
+use Rattle.sched_log.specs.Limits.{end_missing, after_end, past_limit, count_limit}
 use Rattle.sched_log.specs.declared.event.Event.{Event}
-use Rattle.sched_log.specs.declared.event.Event.TheVariants.{Steps, Real, Till, Given}
+use Rattle.sched_log.specs.declared.event.Event.TheVariants.{Steps, Real, Till, Given, Retire}
 use Rattle.sched_log.specs.declared.line.Line.{Line}
 use Rattle.sched_log.specs.declared.line.Line.TheVariants as line
 use Rattle.sched_log.specs.declared.fault.ScriptFault.{ScriptFault}
@@ -28,6 +28,7 @@ count (Steps h n) = n
 count (Real h n) = n
 count (Till n) = n
 count (Given parts) = 0
+count Retire = 0
 
 -- how many plans an event has
 abbrev pub plan_count : Event → ℕ
@@ -41,10 +42,6 @@ event_of _ = []
 abbrev pub count_of : Line → ℕ
 count_of (line.Does e) = count e
 count_of _ = 0
-
-abbrev pub plans_of : Line → ℕ
-plans_of (line.Does e) = plan_count e
-plans_of _ = 0
 
 -- the fault that a line has by itself
 abbrev pub own_fault : Line → Option ℕ
@@ -60,12 +57,10 @@ first_of [] = None
 first_of (None ∷ rest) = first_of rest
 first_of (Some x ∷ rest) = Some x
 
--- the kind of a line's fault, where an end stands before it or not, and there are so many plans up to it, and the counts up to
--- it have this sum
-unfoldable pub kind_of : Bool → (plans sum : ℕ) → Line → Option ℕ
-kind_of ended plans sum line = first_of (
+-- the kind of a line's fault, where an end comes before it or not, and the counts up to it have this sum
+unfoldable pub kind_of : Bool → (sum : ℕ) → Line → Option ℕ
+kind_of ended sum line = first_of (
     own_fault line
-    ∷ when (nat_lt plan_limit plans) wrong_form
     ∷ when (ended && is_command line) after_end
     ∷ when (nat_lt count_limit sum) past_limit
     ∷ [])
@@ -73,9 +68,9 @@ kind_of ended plans sum line = first_of (
 -- the fault of the line at place i, counted from 0
 abbrev pub fault_at : List Line → ℕ → Option ScriptFault
 fault_at lines i = option_map (λ kind. fault.Line (i + 1) kind)
-    (kind_of (list_any is_end (take i lines)) (sum_by plans_of (take (i + 1) lines)) (sum_by count_of (take (i + 1) lines)) (get_or lines i line.Passed))
+    (kind_of (list_any is_end (take i lines)) (sum_by count_of (take (i + 1) lines)) (get_or lines i line.Passed))
 
--- the want of an end, which counts as a fault behind the last line
+-- that no end is there, which counts as a fault after the last line
 abbrev pub no_end : List Line → Option ScriptFault
 no_end lines = when (not (list_any is_end lines)) (fault.Line (length lines + 1) end_missing)
 

@@ -11,4 +11,6 @@ pub enum Event {
     Till { n: u64 },
     /// The functions of a plan move.
     Given(Plan),
+    /// The layouts that nothing refers to are given up.
+    Retire,
 }

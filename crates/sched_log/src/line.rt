@@ -43,6 +43,9 @@ fn of_one(name: &[u8]) -> Line
     if name == b"end".as_slice() {
         return Line::End;
     }
+    if name == b"retire".as_slice() {
+        return Line::Does(Event::Retire);
+    }
     Line::Wrong(WRONG_FORM)
 }
 

@@ -2,13 +2,13 @@
 
 ghost use Rattle.std.specs.Prelude.{◌≡◌, ◌≢◌, ◌+◌, ◌≤◌, ◌++◌, None, Some, IfErr, IfOk, OnOk};
 ghost use Rattle.std.specs.Option.{IfNone};
-ghost use Rattle.sched_log.specs.Limits.{count_limit, plan_limit};
-ghost use Rattle.sched_log.specs.Script.{is_end, is_command, count_of, plans_of, event_of, kind_of, fault_of, events_of};
+ghost use Rattle.sched_log.specs.Limits.{count_limit};
+ghost use Rattle.sched_log.specs.Script.{is_end, is_command, count_of, event_of, kind_of, fault_of, events_of};
 ghost use Rattle.sched_log.specs.Ranges.{AreInRange};
 ghost use Rattle.sched_log.specs.declared.fault.ScriptFault.TheVariants.{NoMemory as Full};
 
 use crate::event::Event;
-use crate::fault::{AFTER_END, NO_END, PAST_LIMIT, ScriptFault, WRONG_FORM};
+use crate::fault::{AFTER_END, NO_END, PAST_LIMIT, ScriptFault};
 use crate::line::{Line, line_of};
 use crate::parts::first_line;
 use image::picture::Image;
@@ -18,9 +18,6 @@ use std::alloc::Global;
 
 /// What the counts of a script may sum to.
 pub const COUNT_LIMIT: u64 = 2_000_000_000;
-
-/// How many plans a script may have: one layout can be live at a time.
-pub const PLAN_LIMIT: u64 = 1;
 
 fn is_end(line: &Line) -> bool
     ensures { result ≡ is_end line.now }
@@ -44,31 +41,15 @@ fn count_of(line: &Line) -> u64
     }
 }
 
-/// How many plans a line has.
-fn plans_of(line: &Line) -> u64
-    ensures { result ≡ plans_of line.now }
-{
-    match line {
-        Line::Does(Event::Given(_)) => 1,
-        _ => 0,
-    }
-}
-
-/// The kind of a line's fault: `ended` says whether an end stands before it, `plans` is the number of plans before it, and
-/// `sum` is that of the counts before it.
+/// The kind of a line's fault: `ended` says whether an end comes before it, and `sum` is that of the counts before it.
 #[tactic(auto, unfolding(crate::specs::Script::kind_of))]
-fn kind_of(ended: bool, plans: u64, sum: u64, line: &Line) -> Option<u8>
-    requires plans { plans ≤ plan_limit }
-    requires sum { sum ≤ count_limit }
-    ensures kind { result ≡ kind_of ended (plans + plans_of line.now) (sum + count_of line.now) line.now }
-    ensures few { IfNone result (plans + plans_of line.now ≤ plan_limit) }
+fn kind_of(ended: bool, sum: u64, line: &Line) -> Option<u8>
+    requires { sum ≤ count_limit }
+    ensures kind { result ≡ kind_of ended (sum + count_of line.now) line.now }
     ensures small { IfNone result (sum + count_of line.now ≤ count_limit) }
 {
     if let Line::Wrong(kind) = line {
         return Some(*kind);
-    }
-    if plans_of(line) > PLAN_LIMIT - plans {
-        return Some(WRONG_FORM);
     }
     if ended && is_command(line) {
         return Some(AFTER_END);
@@ -89,8 +70,8 @@ fn push_event(events: &mut Items<Event>, line: Line) -> Result<(), NoMemory>
     Ok(())
 }
 
-/// The events of a script for an image, or the first line with a fault and the fault's kind. A script has the wanted `end` or
-/// the fault 5 at the number of its lines plus 1.
+/// The events of a script for an image, or the first line with a fault and the fault's kind. A script without an `end` has the
+/// fault 5 at the number of its lines plus 1.
 #[tactic(auto, using(crate::proofs::Steps::fault_start, crate::proofs::Steps::fault_found, crate::proofs::Steps::fault_done, crate::proofs::Steps::event_done, crate::proofs::Ranges::in_range))]
 pub fn read_script(alloc: Global, image: &Image, bytes: &[u8]) -> Result<Items<Event>, ScriptFault>
     ensures none { OnOk result (fault_of image.now bytes.now ≡ None) }
@@ -101,17 +82,15 @@ pub fn read_script(alloc: Global, image: &Image, bytes: &[u8]) -> Result<Items<E
     let mut events = Items::new(alloc);
     let mut number = 1;
     let mut ended = false;
-    let mut plans = 0;
     let mut sum = 0;
     let mut rest = bytes;
     'lines: while !rest.is_empty() {
         let (text, behind) = first_line(rest);
         let line = line_of(alloc, image, text)?;
-        if let Some(kind) = kind_of(ended, plans, sum, &line) {
+        if let Some(kind) = kind_of(ended, sum, &line) {
             return Err(ScriptFault::Line { line: number, kind });
         }
         ended |= is_end(&line);
-        plans += plans_of(&line);
         sum += count_of(&line);
         push_event(&mut events, line)?;
         number += 1;

@@ -70,6 +70,7 @@ fn push_line(text: &mut String, event: &Event) -> Result<(), NoMemory>
             push_plan(text, plan.parts())?;
             text.push('\n')?;
         }
+        Event::Retire => text.push_str("retire\n")?,
     }
     Ok(())
 }

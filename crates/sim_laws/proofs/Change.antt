@@ -82,7 +82,7 @@ module _ (p : Picture) (c d : Code) where
 -- links in memory get other numbers that stand for the same originals
 module _ (p : Picture) (c : Code) (kept : image.IsKept p) (code : IsCodeOf p c) (o : State) where
   -- the same by the numbers of the original memory, which stays
-  IsSentBy : ℕ × ℕ → Type 0
+  abbrev IsSentBy : ℕ × ℕ → Type 0
   IsSentBy l = (is_link_at o.memory l.0 ≡ true) × StandsFor c l.1 (number_at o.memory (8 * (l.0 / 8)))
 
   sent_by : (r : State) (l : ℕ × ℕ) → StatesRelated p c r o → IsSent c r.memory l → IsSentBy l

@@ -1,11 +1,16 @@
 pub mod WholeHops
+pub mod Fitting
 pub mod Following
+pub mod FreeRanges
+pub mod LinkAt
 pub mod LinksRise
 pub mod Lives
 pub mod Moving
 pub mod Placing
+pub mod RelatedAgain
 pub mod Replacement
 pub mod Running
+pub mod SentSlots
 pub mod SoundAgain
 pub mod Starting
 pub mod Stepping

@@ -57,7 +57,7 @@ place_rises g is (e ∷ es) zero (suc j) d h lt l = past es j (λ k m. key_below
     past (f ∷ fs) (suc k) h l = past fs k (λ k m. h (suc k) (omega (arith, m))) (omega (arith, l))
 place_rises g is (e ∷ es) (suc i) (suc j) d h lt l = place_rises g is es i j d (second (below_all nat_cmp e.0 es) (is_sorted nat_cmp es) h) (omega (arith, lt)) (omega (arith, l))
 
-size_map : {A B : Type 0} (f : A → B) (xs : List A) → length (map f xs) ≡ length xs
+pub size_map : {A B : Type 0} (f : A → B) (xs : List A) → length (map f xs) ≡ length xs
 size_map f [] = refl
 size_map f (x ∷ xs) = ap suc (size_map f xs)
 

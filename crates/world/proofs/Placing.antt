@@ -16,6 +16,7 @@ use Rattle.emit.specs.Entries.{entries_of}
 use Rattle.emit.specs.Emitted.{IsEmitted, plan_unreadable, Explains, ExplainsSize}
 use Rattle.emit.specs.declared.fault.EmitFault.{EmitFault}
 use Rattle.emit.specs.declared.fault.EmitFault.TheVariants as fault
+use Rattle.emit.proofs.Emission.{emitted_aims, emitted_some}
 use Rattle.region.specs.Free.{Rises, AreFree, holds, range_from, fit, largest}
 use Rattle.sched_log.specs.declared.facts.Refusal.{Refusal}
 use Rattle.sched_log.specs.declared.facts.Refusal.TheVariants as refusal
@@ -68,17 +69,21 @@ module _ (p : Picture) (plan : List Moved) (free : List Range) (r : Range) (need
   is_new some e f made =
       layout_at l some (fit_as p plan free need (Some l.base) e (f ∙ ap Some (sym made.base_is))) (subst (λ b. IsEmitted p plan b l) (sym made.base_is) made)
 
-  pub is_fit : IsKept p → r ≡ p.region → plan_fault p plan ≡ None → plan_unreadable p plan ≡ None → IsLaid l → need ≡ 4 * length (entries_of p plan) → r.from ≤ base → base + need ≤ r.to
+  pub is_fit : IsKept p → r ≡ p.region → plan ≢ [] → plan_fault p plan ≡ None → plan_unreadable p plan ≡ None → IsLaid l → need ≡ 4 * length (entries_of p plan) → r.from ≤ base → base + need ≤ r.to
       → AreFree free base need → IsEmitted p plan base l → (InRegion p base (length l.words) → RendersAlone p l) → All (λ w. w < 2 ^ 32) l.words
       → IsFit p free l
-  is_fit k e given clean laid size low high unused made renders short =
+  is_fit k e some given clean laid size low high unused made renders short =
       let words : length l.words ≡ length (entries_of p plan) = made.words.size in
       let bytes : need ≡ 4 * length l.words = size ∙ ap (λ n. 4 * n) (sym words) in
       let inside : InRegion p base (length l.words) = subst (λ (q : Range). (j : ℕ) → j < length l.words → in_range q (base + 4 * j) ≡ true) e (within_region r base (length l.words) low (omega (arith, high, bytes))) in
+      let here : IsEmitted p plan l.base l = subst (λ b. IsEmitted p plan b l) (sym made.base_is) made in
+      let here_inside : InRegion p l.base (length l.words) = subst (λ b. InRegion p b (length l.words)) (sym made.base_is) inside in
       record {
         laid = laid;
         renders = renders inside;
-        hops = hops_whole p plan l k given clean (subst (λ b. IsEmitted p plan b l) (sym made.base_is) made);
+        hops = hops_whole p plan l k given clean here;
+        aims = emitted_aims p plan l k given clean laid here here_inside;
+        some = emitted_some p plan l.base l k given clean here some;
         unused = subst (λ n. AreFree free l.base n) bytes (subst (λ b. AreFree free b need) (sym made.base_is) unused);
         short = short_layout l short;
       }

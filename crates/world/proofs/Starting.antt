@@ -1,19 +1,22 @@
 -- A world before its first step.
-use Rattle.std.proofs.Common.{◌≡◌, ℕ, ◌%◌, Bool, true, false, List, [], ◌∷◌, refl, arith}
-use Rattle.std.specs.Prelude.{nat_le, nat_lt, ◌&&◌, ◌||◌, All, if◌then◌else◌}
+use Rattle.std.proofs.Common.{◌≡◌, ℕ, ◌%◌, Bool, true, false, List, [], ◌∷◌, refl, ap, inl, arith}
+use Rattle.std.specs.Prelude.{Some, nat_le, nat_lt, ◌&&◌, ◌||◌, All, if◌then◌else◌}
 use Rattle.std.proofs.lemmas.Bool.{ltb-true}
 use Rattle.std.proofs.lemmas.Bool.Decides.{nat_tests}
 use Rattle.std.proofs.lemmas.List.Elements.{All-nil, All-cons}
 use Rattle.oc_base.specs.declared.range.Range.{Range}
 use Rattle.image.specs.declared.ranges.TextRange.{TextRange}
 use Rattle.image.specs.Picture.{Picture, IsKept}
+use Rattle.std.specs.Option.{option_map}
 use Rattle.layout.specs.Laid.{Laid}
+use Rattle.layout.specs.declared.point.Point.TheVariants.{Start}
+use Rattle.layout.specs.Points.{in_range, here_word, here_point, live_at}
 use Rattle.image.specs.Texts.{word_at}
 use Rattle.machine.specs.Start.{start_of}
 use Rattle.region.specs.Free.{Rises, is_free, range, piece}
 use Rattle.sim_laws.proofs.CodeFacts.{code_is}
 use Rattle.sim_laws.proofs.Start.{renders_itself, start_itself}
-use Rattle.world.specs.Worlds.{code_of, IsSound, Related, started}
+use Rattle.world.specs.Worlds.{code_in, code_of, IsSound, Related, started}
 
 rises_piece : (from to : ℕ) (b : Bool) → nat_lt from to ≡ b → Rises from to (if b then range from to ∷ [] else [])
 rises_piece from to false e = tt
@@ -37,6 +40,15 @@ rest_piece from to a false e = none (nat_le from a) (nat_lt a to) refl refl
     none true false f g = refl
     none false t f g = refl
 
+-- a Start of the text alone stands at its own place
+unchanged : (p : Picture) (a x : ℕ) → (code_in p p.texts []).point a ≡ Some (Start x) → (code_in p p.texts []).word a ≡ word_at p.texts x
+unfolding live_at
+unchanged p a x e = by_test (in_range p.region a) e
+  where
+    by_test : (b : Bool) → (if b then option_map here_point (live_at [] a) else Some (Start a)) ≡ Some (Start x) → (if b then option_map here_word (live_at [] a) else word_at p.texts a) ≡ word_at p.texts x
+    by_test true e = absurd (cc)
+    by_test false e = ap (word_at p.texts) (let same : a ≡ x = cc in same)
+
 pub start_sound : (p : Picture) → IsKept p → IsSound p p.texts [] [] (piece p.region.from p.region.to)
 start_sound p k = record {
   kept = k;
@@ -47,6 +59,8 @@ start_sound p k = record {
     renders = renders_itself p k;
   };
   hops = λ i d lt. absurd (omega (arith, lt));
+  aims = record { sites = λ a x s e f. inl (unchanged p a x e); seconds = λ a x s e f. inl (unchanged p a x e) };
+  some = λ i d lt. absurd (omega (arith, lt));
   within = λ i d lt. absurd (omega (arith, lt));
   apart = λ i j d lt within. absurd (omega (arith, within));
   numbered = refl;

@@ -11,7 +11,8 @@ use Rattle.plans.specs.declared.plan.Moved.{Moved}
 use Rattle.guest_mem.specs.Memory.{Memory, is_link_at, number_at}
 use Rattle.layout.specs.Laid.{Laid, IsLaid}
 use Rattle.layout.specs.Points.{Code, start_of}
-use Rattle.layout.specs.Alone.{RendersAlone}
+use Rattle.layout.specs.Rows.{CallsAim}
+use Rattle.layout.specs.Alone.{alone, RendersAlone}
 use Rattle.emit.specs.Entries.{entries_of}
 use Rattle.emit.specs.Emitted.{IsEmitted, plan_unreadable}
 use Rattle.emit.specs.declared.fault.EmitFault.{EmitFault}
@@ -98,6 +99,8 @@ pub record IsFit (p : Picture) (free : List Range) (l : Laid) : Type 0 where
   pub laid : IsLaid l
   pub renders : RendersAlone p l
   pub hops : All GoesToWord l.points
+  pub aims : CallsAim (alone p l)
+  pub some : 0 < length l.words
   pub unused : AreFree free l.base (4 * length l.words)
   pub short : HasShortWords l
 

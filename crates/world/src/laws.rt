@@ -1,6 +1,6 @@
 //! Laws of runs, for callers' proofs. The functions do nothing.
 
-ghost use Rattle.std.specs.Prelude.{◌≡◌, ℕ, List, [], None, is_some};
+ghost use Rattle.std.specs.Prelude.{◌≡◌, ℕ, List, None, is_some};
 ghost use Rattle.guest_sys.specs.State.{IsOrderly};
 ghost use Rattle.machine.specs.States.{State};
 ghost use Rattle.machine.specs.Steps.{original_run};
@@ -29,9 +29,9 @@ pub fn retirement_law()
     ensures follows { (w v : Replaced) (o : State) → Retires w v → Related w o → Related v o }
 {}
 
-/// The law of a replacement by a plan of the image, where no layout is live: what it makes keeps what each world keeps, and stands for
+/// The law of a replacement by a plan of the image: what it makes keeps what each world keeps, and stands for
 /// the same states of the original machine.
 pub fn replacement_law()
-    ensures sound { (plan : List Moved) (w v : Replaced) → plan_fault w.image plan ≡ None → w.lives ≡ [] → Replaces plan w v → IsWorld w → IsWorld v }
-    ensures follows { (plan : List Moved) (w v : Replaced) (o : State) → plan_fault w.image plan ≡ None → w.lives ≡ [] → Replaces plan w v → Related w o → Related v o }
+    ensures sound { (plan : List Moved) (w v : Replaced) → plan_fault w.image plan ≡ None → Replaces plan w v → IsWorld w → IsWorld v }
+    ensures follows { (plan : List Moved) (w v : Replaced) (o : State) → plan_fault w.image plan ≡ None → Replaces plan w v → Related w o → Related v o }
 {}

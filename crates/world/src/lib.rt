@@ -13,5 +13,6 @@ pub mod laws;
 mod live;
 mod place;
 mod points;
+mod slots;
 mod told;
 pub mod world;

@@ -1,6 +1,6 @@
 //! The live layouts with one more.
 
-ghost use Rattle.std.specs.Prelude.{◌≡◌, ◌<◌, ◌≤◌, ◌⊎◌, ◌↔◌, ◌+◌, ◌*◌, ℕ, true, length, IfSome};
+ghost use Rattle.std.specs.Prelude.{◌≡◌, ◌<◌, ◌≤◌, ◌⊎◌, ◌↔◌, ◌+◌, ◌*◌, ◌^◌, ℕ, true, length, All, IfSome};
 ghost use Rattle.std.specs.Vec.{vec_capacity};
 ghost use Rattle.patcher.specs.Patched.{Fits, texts_with, layouts_with, joined};
 ghost use Rattle.region.specs.Free.{AreFree, is_free};
@@ -8,10 +8,20 @@ ghost use Rattle.region.specs.Space.{IsSpace};
 ghost use Rattle.world.specs.Replacing.{numbered, left_by, placed_by};
 
 use crate::counts::{Counts, more};
+use crate::place::short_words;
 use layout::layout::Layout;
 use patcher::patches::Patches;
 use patcher::text::TextNow;
 use region::space::Region;
+
+/// That the words of layouts have 32 bits, for a caller's proof. It does nothing.
+fn short_layouts(layouts: &[Layout])
+    ensures { All (λ l. All (λ w. w < 2 ^ 32) l.words) layouts.now }
+{
+    for layout in layouts {
+        short_words(layout.words());
+    }
+}
 
 /// Puts words in their places in text and in the live layouts. It takes no memory.
 pub fn aim(patches: Patches, text: &mut TextNow, lives: &mut Vec<Layout>)
@@ -20,8 +30,10 @@ pub fn aim(patches: Patches, text: &mut TextNow, lives: &mut Vec<Layout>)
     ensures lives { lives.new.items ≡ layouts_with patches.lives lives.old.items }
     ensures len { length lives.new.items ≡ length lives.old.items }
     ensures capacity { vec_capacity lives.new ≡ vec_capacity lives.old }
+    ensures short { All (λ l. All (λ w. w < 2 ^ 32) l.words) lives.new.items }
 {
     patches.apply(text, lives);
+    short_layouts(lives);
 }
 
 /// Adds a layout with its number, if there is one, and takes its part of the region. It takes no memory.

@@ -7,12 +7,16 @@ ghost use Rattle.plans.specs.Given.{plan_fault};
 ghost use Rattle.layout.specs.Laid.{Laid as LaidData};
 ghost use Rattle.patcher.specs.Patched.{ArePatches};
 ghost use Rattle.patcher.specs.Reach.{AllReach};
-ghost use Rattle.world.specs.Replacing.{is_no_memory, told_as, IsNew, Refuses, ReachRefuses, IsFit, IsPlacement};
+ghost use Rattle.image.specs.declared.ranges.TextRange.{TextRange as TextData};
+ghost use Rattle.world.specs.Worlds.{code_in};
+ghost use Rattle.world.specs.Replacing.{is_no_memory, told_as, IsNew, Refuses, ReachRefuses, IsFit, IsPlacement, slots_sent};
 
+use crate::slots::slots_sent;
 use emit::draft::Draft;
 use emit::fault::EmitFault;
 use image::picture::Image;
 use layout::layout::Layout;
+use machine::machine::Machine;
 use patcher::fault::ReachFault;
 use patcher::patches::{Patch, Patches};
 use patcher::work::work_out;
@@ -21,11 +25,12 @@ use region::space::Region;
 use sched_log::facts::Refusal;
 use std::alloc::Global;
 
-/// A new layout, where the plan moves a function, and the words that calls become.
+/// A new layout, where the plan moves a function, the words that calls become, and the numbers that slots become.
 #[derive(Drop)]
 pub struct Placement {
     pub layout: Option<Layout>,
     pub patches: Patches,
+    pub slots: Vec<(u64, u64)>,
 }
 
 /// Whether it is want of memory.
@@ -46,7 +51,7 @@ fn told_as(fault: EmitFault) -> Refusal
 }
 
 /// That words have 32 bits, for a caller's proof. It does nothing.
-fn short_words(words: &[u32])
+pub fn short_words(words: &[u32])
     ensures { All (λ w. w < 2 ^ 32) words.now }
 {
     let _ = words;
@@ -132,10 +137,11 @@ fn new_layout(
     }
 }
 
-/// The words that calls become under a new layout, or with none.
+/// What calls and slots become under a new layout, or with none.
 fn aimed(
     alloc: Global,
     image: &Image,
+    machine: &Machine,
     lives: &[Layout],
     new: Option<Layout>,
 ) -> Result<Placement, Refusal>
@@ -144,19 +150,26 @@ fn aimed(
     ensures is { IfOk result (λ q. ArePatches image.now new lives.now q.patches) }
     ensures reach { OnOk result (AllReach image.now new lives.now) }
     ensures short { IfOk result (λ q. All (λ s. s.word < 2 ^ 32) q.patches.text) }
+    ensures slots { (text : List TextData) → IfOk result (λ q. q.slots.items ≡ slots_sent image.now (code_in image.now text lives.now) new machine.now.memory) }
     ensures refused { IfErr result (ReachRefuses image.now new lives.now) }
 {
-    match work_out(alloc, image, lives, new.as_ref()) {
-        Ok(patches) => {
-            short_patches(patches.text.as_slice());
-            Ok(Placement {
-                layout: new,
-                patches,
-            })
-        }
-        Err(ReachFault::BranchReach { at, target }) => Err(Refusal::BranchReach { at, target }),
-        Err(ReachFault::NoMemory) => Err(Refusal::NoMemory),
-    }
+    let patches = match work_out(alloc, image, lives, new.as_ref()) {
+        Ok(patches) => patches,
+        Err(ReachFault::BranchReach { at, target }) => return Err(Refusal::BranchReach {
+            at,
+            target,
+        }),
+        Err(ReachFault::NoMemory) => return Err(Refusal::NoMemory),
+    };
+    short_patches(patches.text.as_slice());
+    let Ok(slots) = slots_sent(alloc, image, machine, lives, new.as_ref()) else {
+        return Err(Refusal::NoMemory);
+    };
+    Ok(Placement {
+        layout: new,
+        patches,
+        slots,
+    })
 }
 
 /// What a replacement makes, or the first cause to refuse it.
@@ -164,6 +177,7 @@ pub fn place(
     alloc: Global,
     image: &Image,
     region: &Region,
+    machine: &Machine,
     lives: &[Layout],
     plan: &Plan,
 ) -> Result<Placement, Refusal>
@@ -172,13 +186,14 @@ pub fn place(
     requires all { region.now.all ≡ image.now.region }
     requires whole { All (λ r. r.from % 4 ≡ 0) region.now.free }
     ensures is { IfOk result (λ q. IsPlacement image.now lives.now region.now.free plan.now q.layout q.patches) }
+    ensures slots { (text : List TextData) → IfOk result (λ q. q.slots.items ≡ slots_sent image.now (code_in image.now text lives.now) q.layout machine.now.memory) }
     ensures refused { IfErr result (Refuses image.now lives.now region.now.free plan.now) }
 {
     let new = match new_layout(alloc, image, region, plan) {
         Ok(new) => new,
         Err(why) => return Err(why),
     };
-    match aimed(alloc, image, lives, new) {
+    match aimed(alloc, image, machine, lives, new) {
         Ok(placement) => Ok(placement),
         Err(why) => Err(why),
     }

@@ -56,7 +56,7 @@ pub fn changed_in(image: &Image, text: &TextNow) -> u64
 }
 
 /// How many of these links stand before an address.
-fn links_before(links: &[(u64, u64)], at: u64) -> usize
+pub fn links_before(links: &[(u64, u64)], at: u64) -> usize
     requires { AllPairs (λ k l. k.0 < l.0) links.now }
     ensures within { result ≤ length links.now }
     ensures below { AllWithin (λ l. l.0 < at) links.now 0 result }

@@ -11,7 +11,7 @@ ghost use Rattle.plans.specs.Given.{plan_fault};
 ghost use Rattle.sim_laws.specs.Steps.{is_layout, original_after};
 ghost use Rattle.world.specs.Worlds.{IsSound, Related, code_of, started, kind_of, step_of, more};
 ghost use Rattle.world.specs.Runs.{moved, IsMoved, real_step_of, real_kind_of, real_steps_of};
-ghost use Rattle.world.specs.Replacing.{Refuses, IsPlacement, IsReplaced, refused_as, RefusedBy, Attempts};
+ghost use Rattle.world.specs.Replacing.{Refuses, IsPlacement, IsReplaced, slots_sent, refused_as, RefusedBy, Attempts};
 ghost use Rattle.world.specs.Retiring.{held_by, AreUnreferenced, without, freed, RetiresAs, LeadsToCode};
 ghost use Rattle.world.specs.Told.{retired_in, facts_of};
 
@@ -20,6 +20,7 @@ use crate::counts::{Counts, more};
 use crate::giving_up::{give_up, links_held, pcs_of, text_aims};
 use crate::live::{add, aim};
 use crate::place::{Placement, is_no_memory, place};
+use crate::slots::send;
 use crate::told::{changed_in, hart_facts, layout_facts, slots_in};
 use image::picture::Image;
 use layout::layout::Layout;
@@ -375,15 +376,23 @@ impl World {
     fn work_out(&self, plan: &Plan) -> Result<Placement, Refusal>
         requires { plan_fault self.now.image plan.now ≡ None }
         ensures is { IfOk result (λ q. IsPlacement self.now.image self.now.lives self.now.free plan.now q.layout q.patches) }
+        ensures slots { IfOk result (λ q. q.slots.items ≡ slots_sent self.now.image (code_of self.now) q.layout self.now.machine.memory) }
         ensures refused { IfErr result (Refuses self.now.image self.now.lives self.now.free plan.now) }
     {
-        place(self.alloc, &self.image, &self.region, &self.lives, plan)
+        place(
+            self.alloc,
+            &self.image,
+            &self.region,
+            &self.machine,
+            &self.lives,
+            plan,
+        )
     }
 
     /// Makes what was worked out.
     fn put(&mut self, plan: &Plan, placement: Placement) -> Result<(), NoMemory>
         requires placement { IsPlacement self.old.image self.old.lives self.old.free plan.now placement.layout placement.patches }
-        requires none { self.old.lives ≡ [] }
+        requires slots { placement.slots.items ≡ slots_sent self.old.image (code_of self.old) placement.layout self.old.machine.memory }
         ensures ok { OnOk result (IsReplaced plan.now self.old self.new) }
         ensures err { OnErr result (self.new ≡ self.old) }
     {
@@ -391,7 +400,12 @@ impl World {
         self.region.reserve(1)?;
         self.lives.reserve(1)?;
         self.numbers.reserve(1)?;
-        let Placement { layout, patches } = placement;
+        let Placement {
+            layout,
+            patches,
+            slots,
+        } = placement;
+        send(&mut self.machine, &slots);
         aim(patches, &mut self.text, &mut self.lives);
         add(
             &mut self.lives,
@@ -432,7 +446,6 @@ impl World {
 
     fn make_replace(&mut self, plan: &Plan) -> Result<(), Refusal>
         requires plan { plan_fault self.old.image plan.now ≡ None }
-        requires none { self.old.lives ≡ [] }
         ensures { Attempts plan.now self.old (is_some self.old.machine.outcome) result self.new }
     {
         if self.outcome().is_some() {
@@ -448,14 +461,13 @@ impl World {
         Ok(())
     }
 
-    /// Makes the layout of a plan, at the least address that fits, and sends every call of the text to it; a plan that moves no function
-    /// sends them all back to original code. A refused attempt is counted and kept, and nothing else is changed. Want of memory changes
+    /// Makes the layout of a plan, at the least address that fits, and sends every call of the text and of the live layouts to it, and
+    /// each slot that the program hasn't overwritten; a plan that moves no function sends them all back to original code. A refused attempt is counted and kept, and nothing else is changed. Want of memory changes
     /// nothing and isn't counted. After the run's end nothing is changed, and the answer is Ok.
     ///
     /// Whatever state of the original machine the world stands for, it goes on to stand for it.
     pub fn replace(&mut self, plan: &Plan) -> Result<(), Refusal>
         requires plan { plan_fault self.old.image plan.now ≡ None }
-        requires none { self.old.lives ≡ [] }
         ensures is { Attempts plan.now self.old (is_some self.old.machine.outcome) result self.new }
         ensures related { (o : State) → Related self.old o → Related self.new o }
     {

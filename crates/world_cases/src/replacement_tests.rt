@@ -52,3 +52,16 @@ fn a_branch_past_its_reach_is_long(rt: HostRuntime) -> Result<(), Fail> {
     assert_eq!(rt; first_missing(rt.alloc(), BRANCHES)?.as_str(), "");
     Ok(())
 }
+
+const SEVERAL: &str = "\
+calls of an older layout move on: recursion | real 7, replace 1:0 1 2, real 5, replace 1:2 1 0, real 100 = real 33 layout 0; attempts 2 done 2; sites 2 slots 0; layout 1 12000 9; layout 2 12024 11; exit 6
+a slot is sent: table | real 5, replace 1:0, real 3 = real 8 layout 0; sites 0 slots 1; layout 1 13000 2; hart live 10020 13004; unfinished
+a slot is sent on: table | real 5, replace 1:0, replace 1:0, real 3 = sites 0 slots 1; layout 2 13008 2; hart live 10020 1300c
+a slot is sent home: table | real 5, replace 1:0, replace , real 3 = attempts 2 done 2; sites 0 slots 0; layout 1 13000 2; hart live 10020 10020
+a slot that is overwritten is left: own table | real 4, replace 1:0, real 3 = sites 0 slots 0; layout 1 13000 2; hart live 1002c 1002c";
+
+#[test]
+fn older_layouts_and_slots_are_sent_on(rt: HostRuntime) -> Result<(), Fail> {
+    assert_eq!(rt; first_missing(rt.alloc(), SEVERAL)?.as_str(), "");
+    Ok(())
+}

@@ -12,9 +12,6 @@ use world::world::World;
 
 fn replace(alloc: Global, world: &mut World, plan: &str) -> Result<(), Fail> {
     let plan = plan_of(alloc, world.image(), plan)?;
-    if world.live_layouts() != 0 {
-        return Err(Fail::new("a layout is live"));
-    }
     if let Err(Refusal::NoMemory) = world.replace(&plan) {
         return Err(Fail::new("out of memory"));
     }

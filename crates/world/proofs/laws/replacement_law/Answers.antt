@@ -1,5 +1,4 @@
-use Rattle.world.proofs.Running.{replaces_related}
-use Rattle.world.proofs.SoundAgain.{replaces_sound}
+use Rattle.world.proofs.RelatedAgain.{replaces_sound, replaces_related}
 use Rattle.world.proofs.laws.replacement_law.Goals as goal
 
 pub returns-clause-sound : goal.returns-clause-sound

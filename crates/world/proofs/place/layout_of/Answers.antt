@@ -25,7 +25,7 @@ returns-in-Ok-place-clause-is c =
 
 pub returns-in-Ok-place-clause-fits : goal.returns-in-Ok-place-clause-fits
 returns-in-Ok-place-clause-fits c =
-    is_fit c.args.image.now c.args.plan.now c.args.region.now.free c.args.region.now.all c.size-need.result c.in-Some.base c.in-Ok-place.layout c.kept.ensures c.requires.all c.requires.plan
+    is_fit c.args.image.now c.args.plan.now c.args.region.now.free c.args.region.now.all c.size-need.result c.in-Some.base c.in-Ok-place.layout c.kept.ensures c.requires.all c.requires.some c.requires.plan
     c.in-Ok.ensures.none c.kept-in-Ok-place.ensures (rw (c.in-Ok.ensures.image, c.in-Ok.ensures.plan) at c.size-need.ensures) c.in-Some.ensures.low c.in-Some.ensures.high c.in-Some.ensures.free
     (rw (c.in-Ok.ensures.image, c.in-Ok.ensures.plan) at c.in-Ok-place.ensures.is) (rw c.in-Ok.ensures.image at c.in-Ok-place.ensures.renders)
     (subst (λ (ws : List ℕ). All (λ w. w < 2 ^ 32) ws) c.words.ensures c.short_words.ensures)

@@ -1,11 +1,23 @@
-use Rattle.std.proofs.Common.{sym, ap, ◌∙◌, subst}
+use Rattle.std.proofs.Common.{◌≡◌, ℕ, ◌^◌, ◌<◌, List, sym, ap, ◌∙◌, subst}
+use Rattle.std.specs.Prelude.{All, true}
+use Rattle.guest_mem.specs.Memory.{is_link_at}
+use Rattle.layout.specs.Laid.{Laid}
 use Rattle.region.specs.Space.{Space}
 use Rattle.patcher.specs.Patched.{Fits, joined, layouts_with}
 use Rattle.patcher.proofs.Patching.{fits}
-use Rattle.world.specs.Worlds.{Replaced, IsWorld}
-use Rattle.world.specs.Replacing.{IsPlacement, numbered, left_by}
+use Rattle.sim_laws.specs.Changes.{with_links, with_memory}
+use Rattle.world.specs.Worlds.{Replaced, IsWorld, code_of}
+use Rattle.world.specs.Replacing.{IsPlacement, slots_sent, numbered, left_by}
 use Rattle.world.proofs.Replacement.{put_sound, put_is, is_replaced, finish_is}
+use Rattle.world.proofs.SentSlots.{sent_links}
 use Rattle.world.proofs.world.World.put.Goals as goal
+
+pub send-requires : goal.send-requires
+send-requires c =
+    let w = c.args.self.now in
+    let sent = sent_links w.image (code_of w) c.args.placement.layout w.machine.memory in
+    subst (λ (x : Replaced). All (λ (l : ℕ × ℕ). is_link_at x.machine.memory l.0 ≡ true) c.deref.result.now) (sym c.self.view_is)
+    (subst (λ (ls : List (ℕ × ℕ)). All (λ (l : ℕ × ℕ). is_link_at w.machine.memory l.0 ≡ true) ls) (sym (c.deref.ensures.value ∙ c.requires.slots)) sent)
 
 pub aim-requires : goal.aim-requires
 aim-requires c =
@@ -21,12 +33,11 @@ invariant_of-self-2 c =
     let q = c.args.placement.patches in
     let new = c.args.placement.layout in
     let placement = subst (λ (x : Replaced). IsPlacement x.image x.lives x.free c.args.plan.now new q) (sym c.self.view_is) c.requires.placement in
-    let none = ap (λ (x : Replaced). x.lives) c.self.view_is ∙ c.requires.none in
     let all = c.add.ensures.all ∙ ap (λ (s : Space). s.all) c.in_ok-reserve.ensures.ok ∙ c.self.invariant.0 in (
       all,
       put_sound i.image i.text i.lives.items i.numbers.items i.region.free c.args.plan.now new q i.counts
           c.aim.new.text c.add.new.lives.items c.reserve-2.new.self.items c.add.new.numbers.items c.reserve-3.new.self.items c.add.new.region.free c.reserve.new.self.free
-          c.self.invariant.1 none placement (c.in_ok-reserve-2.ensures.items) c.in_ok-reserve-3.ensures.items (ap (λ (s : Space). s.free) c.in_ok-reserve.ensures.ok)
+          c.self.invariant.1 placement (c.in_ok-reserve-2.ensures.items) c.in_ok-reserve-3.ensures.items (ap (λ (s : Space). s.free) c.in_ok-reserve.ensures.ok)
           c.aim.ensures.text (c.add.ensures.lives ∙ ap (λ ls. joined ls new) c.aim.ensures.lives) c.add.ensures.numbers c.add.ensures.free,
     )
 
@@ -37,10 +48,13 @@ returns-clause-ok c =
     let new = c.args.placement.layout in
     let sound = subst IsWorld c.self.view_is c.self.invariant.1 in
     let lives = c.in_ok-reserve-2.ensures.items in
-    is_replaced c.args.plan.now c.args.self.now _ new q sound c.requires.placement
-    (put_is _ c.args.self.now new q c.self.view_is c.aim.new.text c.add.new.lives.items c.add.new.numbers.items c.add.new.region.free c.finish.new.self
+    let older = c.aim.ensures.lives ∙ ap (layouts_with q.lives) (lives ∙ ap (λ (x : Replaced). x.lives) c.self.view_is) in
+    let slots = c.deref.ensures.value ∙ c.requires.slots ∙ ap (λ (x : Replaced). slots_sent x.image (code_of x) new x.machine.memory) (sym c.self.view_is) in
+    is_replaced c.args.plan.now c.args.self.now _ new q sound c.requires.placement (subst (λ (ls : List Laid). All (λ (l : Laid). All (λ n. n < 2 ^ 32) l.words) ls) older c.aim.ensures.short)
+    (put_is _ c.args.self.now new q c.self.view_is c.aim.new.text c.add.new.lives.items c.add.new.numbers.items c.add.new.region.free c.send.new.machine c.finish.new.self
     c.aim.ensures.text
     (c.add.ensures.lives ∙ ap (λ ls. joined ls new) (c.aim.ensures.lives ∙ ap (layouts_with q.lives) lives))
     (c.add.ensures.numbers ∙ ap (numbered new i.counts) c.in_ok-reserve-3.ensures.items)
     (c.add.ensures.free ∙ ap (left_by new) (ap (λ (s : Space). s.free) c.in_ok-reserve.ensures.ok))
+    (c.send.ensures ∙ ap (λ (ls : List (ℕ × ℕ)). with_memory (with_links ls i.machine.memory) i.machine) slots)
     (finish_is new i.counts c.add.new.counts c.finish.new.self c.add.ensures.counts c.finish.ensures))

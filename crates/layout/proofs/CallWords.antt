@@ -1,5 +1,5 @@
--- What the words of calls read as in the original text, and where functions start.
-use Rattle.std.proofs.Common.{◌≡◌, ℕ, zero, suc, ◌+◌, ◌-◌, ◌/◌, ◌%◌, ◌^◌, ◌==◌, ◌<◌, ◌≤◌, Bool, true, false, List, [], ◌∷◌, length, get_or, refl, ◌∙◌, ap, subst, inl, inr, arith}
+-- What the words of calls read as in the original text.
+use Rattle.std.proofs.Common.{◌≡◌, ℕ, ◌+◌, ◌-◌, ◌/◌, ◌%◌, ◌==◌, ◌<◌, ◌≤◌, Bool, true, false, List, length, get_or, refl, ◌∙◌, ap, subst, inl, inr, arith}
 use Rattle.std.specs.Prelude.{◌⊎◌, ℤ, Option, Some, None, All, AllPairs, Contains, find, slice_get, nat_le, nat_lt, option_and_then, if◌then◌else◌}
 use Rattle.std.specs.Option.{option_map}
 use Rattle.std.proofs.lemmas.Bool.{cases_lt, eqb-true, leb-true, ltb-true, le-leb, lt-ltb, and_parts}
@@ -14,14 +14,13 @@ use Rattle.image.specs.declared.ranges.Func.{Func}
 use Rattle.image.specs.declared.ranges.Aim.{Aim}
 use Rattle.image.specs.Jumps.{call_of, low_of, high_of, sum_of, jal_target, far_target}
 use Rattle.image.specs.Texts.{text_end, covers, word_in, word_at, word_after}
-use Rattle.image.specs.Aims.{func_start, func_from, site_at, pair_at, far_call_at}
-use Rattle.image.specs.Picture.{Picture, IsText, IsFunc, IsKept}
-use Rattle.layout.specs.Points.{in_range, site_of, second_of, start_of}
+use Rattle.image.specs.Aims.{func_from, aim_place, site_at, pair_at, far_call_at, is_inner}
+use Rattle.image.specs.Picture.{Picture, IsText, IsKept}
+use Rattle.layout.specs.Points.{aim_func, site_of, second_of}
 use Rattle.layout.proofs.TextWords.{found}
-use Rattle.patcher.proofs.CallLists.{site_listed, second_listed, pair_far}
 
 -- ---- bound options
-bound : {X Y : Type 0} (o : Option X) (f : X → Option Y) (y : Y) → option_and_then f o ≡ Some y → (x : X) × (o ≡ Some x) × (f x ≡ Some y)
+pub bound : {X Y : Type 0} (o : Option X) (f : X → Option Y) (y : Y) → option_and_then f o ≡ Some y → (x : X) × (o ≡ Some x) × (f x ≡ Some y)
 bound None f y e = absurd (cc)
 bound (Some x) f y e = (x, refl, e)
 
@@ -79,7 +78,34 @@ module _ (texts : List TextRange) (fit : All IsText texts) (rise : AllPairs (λ 
       let c = found (covers a) texts t.0 t.1 in
       in_same a w t.0 c.0 c.1 t.2
 
--- ---- calls
+-- ---- the lists of calls
+listed_by : (o : Option Aim) (f : ℕ) → option_map aim_func o ≡ Some f → (s : Aim) × (o ≡ Some s)
+listed_by None f e = absurd (cc)
+listed_by (Some s) f e = (s, refl)
+
+pub site_listed : (p : Picture) (x f : ℕ) → site_of p x ≡ Some f → (s : Aim) × Contains p.sites s × (s.at ≡ x)
+unfolding site_of
+site_listed p x f e =
+    let s = listed_by (find (λ s. aim_place s == x) p.sites) f e in
+    let c = found (λ s. aim_place s == x) p.sites s.0 s.1 in
+    (s.0, c.0, eqb-true (aim_place s.0) x c.1)
+
+pub second_listed : (p : Picture) (x f : ℕ) → second_of p x ≡ Some f → (s : Aim) × Contains p.pairs s × (s.at + 4 ≡ x)
+unfolding second_of
+second_listed p x f e =
+    let s = listed_by (find (λ s. aim_place s + 4 == x) p.pairs) f e in
+    let c = found (λ s. aim_place s + 4 == x) p.pairs s.0 s.1 in
+    (s.0, c.0, eqb-true (aim_place s.0 + 4) x c.1)
+
+pub pair_far : (texts : List TextRange) (funcs : List Func) (entry a n : ℕ) → pair_at texts funcs entry a ≡ Some n → far_call_at texts funcs a ≡ Some n
+unfolding pair_at
+pair_far texts funcs entry a n e = by_test (is_inner texts funcs entry (a + 4)) e
+  where
+    by_test : (b : Bool) → (if b then far_call_at texts funcs a else None) ≡ Some n → far_call_at texts funcs a ≡ Some n
+    by_test true e = e
+    by_test false e = absurd (cc)
+
+-- ---- what calls read as
 pub record IsJal (p : Picture) (x : ℕ) : Type 0 where
   pub word : ℕ
   pub rd : ℕ
@@ -146,47 +172,3 @@ second_is_jalr p k x f e =
     let s = second_listed p x f e in
     subst (IsJalr p) s.2 (far_jalr p k s.0.at s.0.func
     (pair_far p.texts p.funcs p.entry s.0.at s.0.func (All-contains (λ (s : Aim). pair_at p.texts p.funcs p.entry s.at ≡ Some s.func) p.pairs s.0 k.pairs_call s.1)))
-
--- ---- starts
-get_contains : {X : Type 0} (xs : List X) (k : ℕ) (x : X) → slice_get xs k ≡ Some x → Contains xs x
-get_contains [] k x e = absurd (cc)
-get_contains (y ∷ ys) zero x e = let same : y ≡ x = cc in (0, omega arith, same)
-get_contains (y ∷ ys) (suc k) x e = let c = get_contains ys k x e in (suc c.0, (let lt = c.1 in omega (arith, lt)), c.2)
-
-mapped_func : (o : Option Func) (s : ℕ) → option_map func_start o ≡ Some s → (f : Func) × (o ≡ Some f) × (f.from ≡ s)
-mapped_func None s e = absurd (cc)
-mapped_func (Some f) s e = (f, refl, cc)
-
-pub record IsStart (p : Picture) (s : ℕ) : Type 0 where
-  pub outside : in_range p.region s ≡ false
-  pub low : s < 2 ^ 64
-
-start_in_text : (p : Picture) → IsKept p → (f : Func) → IsFunc p.texts f → IsStart p f.from
-start_in_text p k f h = by_text h.inside
-  where
-    some : f.from < f.to
-    some = h.some
-
-    by_text : (i : ℕ) × (t : TextRange) × (i < length p.texts) × (get_or p.texts i t ≡ t) × ((t.from ≤ f.from) × (f.to ≤ text_end t)) → IsStart p f.from
-    by_text (i, t, lt, at, (low, high)) =
-        record {
-          outside = by_test (in_range p.region f.from) refl;
-          low = (let top = (All-contains IsText p.texts t k.texts_fit (i, lt, at)).high in let l = some in omega (arith, top, high, l));
-        }
-      where
-        clash : (f.from < t.from) ⊎ (text_end t + 4 ≤ f.from) → ⊥
-        clash (inl l) = omega (arith, l, low)
-        clash (inr l) = let m = some in omega (arith, l, high, m)
-
-        by_test : (b : Bool) → in_range p.region f.from ≡ b → b ≡ false
-        by_test false e = refl
-        by_test true e =
-            let q = and_parts (nat_le p.region.from f.from) (nat_lt f.from p.region.to) e in
-            let free = k.region.free f.from (leb-true p.region.from f.from q.0) (ltb-true f.from p.region.to q.1) in
-            absurd (clash (All-contains (λ t. (f.from < t.from) ⊎ (text_end t + 4 ≤ f.from)) p.texts t free.no_text (i, lt, at)))
-
-pub start_outside : (p : Picture) → IsKept p → (f s : ℕ) → start_of p f ≡ Some s → IsStart p s
-unfolding start_of
-start_outside p k f s e =
-    let g = mapped_func (slice_get p.funcs f) s e in
-    subst (IsStart p) g.2 (start_in_text p k g.0 (All-contains (IsFunc p.texts) p.funcs g.0 k.funcs_fit (get_contains p.funcs f g.0 g.1)))
