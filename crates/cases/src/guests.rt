@@ -3,7 +3,7 @@
 use std::alloc::{AllocError, Global};
 
 /// - `countdown` calls `work` twice, which counts down, and exits with the low part of an AUIPC's value.
-/// - `recursion` calls itself, with its return addresses on the stack.
+/// - `recursion` calls itself, with its return addresses on the stack; `dead link` does so once more, and then overwrites the deepest of them.
 /// - `loops` branches and jumps to blocks of its own, and to themselves; `jumps` jumps with and without a link, in the function and out
 ///   of it; `fork` branches over one block, `over N` over N words; `last falls` ends in a branch.
 /// - `zero word` has a function whose one word is zero; `faults` has functions with a fault each, and a second one behind it.
@@ -15,6 +15,7 @@ use std::alloc::{AllocError, Global};
 const GUESTS: &str = "\
 countdown: .func main; jal x1,work; jal x1,work; addi x17,x0,93; ecall; .end/.func work; addi x5,x0,2; top: addi x5,x5,-1; bne x5,x0,top; auipc x6,0; andi x10,x6,63; ret; .end
 recursion: .func main; addi x10,x0,3; jal x1,rec; addi x17,x0,93; ecall; .end/.func rec; beq x10,x0,done; addi x2,x2,-16; sd x1,0(x2); addi x10,x10,-1; jal x1,rec; ld x1,0(x2); addi x2,x2,16; addi x10,x10,2/done: ret; .end
+dead link: .func main; addi x10,x0,4; jal x1,rec; sd x0,-64(x2); addi x17,x0,93; ecall; .end/.func rec; beq x10,x0,done; addi x2,x2,-16; sd x1,0(x2); addi x10,x10,-1; jal x1,rec; ld x1,0(x2); addi x2,x2,16; addi x10,x10,2/done: ret; .end
 loops: .func main; addi x5,x0,3; again: addi x5,x5,-1; bne x5,x0,again; jal x0,again/one: beq x0,x0,one; two: jal x0,two; ebreak; .end
 jumps: .func main; jal x0,over; addi x5,x0,1; over: jalr x0,0(x5); jalr x1,0(x5); addi x6,x0,1; jal x1,main; jal x0,leaf; ret; .end/.func leaf; ret; .end
 zero word: .func main; addi x17,x0,93; ecall; .end; .func bad; .word 0; .end

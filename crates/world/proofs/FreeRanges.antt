@@ -14,7 +14,7 @@ use Rattle.region.specs.Free.{Rises, AreFree, is_free, range, piece, without, ta
 use Rattle.region.proofs.Taking.{took, taken_addresses, taken_none, none_addresses}
 use Rattle.world.specs.Worlds.{covers}
 
-abbrev AreWhole : List Range → Type 0
+abbrev pub AreWhole : List Range → Type 0
 AreWhole rs = AllByRecursion (λ r. r.from % 4 ≡ 0) rs
 
 whole_append : (rs ss : List Range) → AreWhole rs → AreWhole ss → AreWhole (rs ++ ss)
@@ -47,7 +47,7 @@ taken_whole from to rs e h = by_test (nat_lt from to)
     by_test true = All-from_recursion (λ (r : Range). r.from % 4 ≡ 0) (flat_map (without from to) rs) (whole_each from to rs e (recursion_from_All (λ (r : Range). r.from % 4 ≡ 0) rs h))
     by_test false = h
 
-same_test : (x z : Bool) → (x ≡ true → z ≡ true) → (z ≡ true → x ≡ true) → x ≡ z
+pub same_test : (x z : Bool) → (x ≡ true → z ≡ true) → (z ≡ true → x ≡ true) → x ≡ z
 same_test true true f g = refl
 same_test false false f g = refl
 same_test true false f g = sym (f refl)
@@ -107,7 +107,7 @@ left_addresses low high rs at zero a h f = rw (taken_none rs at) (none_addresses
 left_addresses low high rs at (suc n) a h f = taken_addresses low high rs at (suc n) a h (omega arith) f
 
 -- ---- layouts that lie apart
-covers_is : (a : ℕ) (l : Laid) → l.base ≤ a → a < l.base + 4 * length l.words → covers a l ≡ true
+pub covers_is : (a : ℕ) (l : Laid) → l.base ≤ a → a < l.base + 4 * length l.words → covers a l ≡ true
 covers_is a l low high = and_from (nat_le l.base a) (nat_lt a (l.base + 4 * length l.words)) (le-leb l.base a low) (lt-ltb a (l.base + 4 * length l.words) high)
 
 -- layouts that have words, and no byte in common

@@ -18,6 +18,7 @@ use Rattle.retire.proofs.Places.{are_apart, from_there, same_place}
 use Rattle.sim_laws.specs.Changes.{GivesUp}
 use Rattle.world.specs.Worlds.{code_in}
 use Rattle.world.specs.Retiring.{without}
+use Rattle.world.proofs.FreeRanges.{same_test}
 use Rattle.world.proofs.LeftOver.{Climbs, came_from, went_to}
 
 -- ---- what a layout has at an address
@@ -168,12 +169,6 @@ module _ (p : Picture) (text : List TextRange) (lives : List Laid) (gone : List 
           let second : x.stood.place ≡ y.stood.place = same_base x.stood.place y.stood.place x.stood.layout y.stood.layout x.stood.at y.stood.at (x.base ∙ sym y.base) in
           let g = still b y.is y.stood (subst (λ k. Contains gone k → ⊥) (first ∙ second) s.left) in
           ap is_some (home_some (without gone lives) b g.0 y.inside g.1)
-
-  same_test : (x z : Bool) → (x ≡ true → z ≡ true) → (z ≡ true → x ≡ true) → x ≡ z
-  same_test true true f g = refl
-  same_test false false f g = refl
-  same_test true false f g = sym (f refl)
-  same_test false true f g = g refl
 
   whole_at : (a b : ℕ) → (code_in p text lives).home a ≡ (code_in p text lives).home b → gone_at a ≡ gone_at b
   whole_at a b e = by_home ((code_in p text lives).home a) refl e

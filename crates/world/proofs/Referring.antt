@@ -20,8 +20,8 @@ use Rattle.layout.specs.Laid.{Laid, item_at, point_in}
 use Rattle.layout.specs.Points.{Code, Here, here_word, here_point, here_in, live_at, in_range, read, aim_func, site_of, second_of, start_of}
 use Rattle.layout.specs.Rows.{GoesTo, CallsAim, Renders}
 use Rattle.layout.specs.Alone.{NamesCalls, called_at}
+use Rattle.layout.proofs.CallWords.{bound, site_listed, second_listed}
 use Rattle.layout.proofs.TextRows.{read_same}
-use Rattle.layout.proofs.TextWords.{found}
 use Rattle.patcher.specs.Patched.{LieApart}
 use Rattle.patcher.proofs.Joined.{here_back}
 use Rattle.retire.specs.References.{Covers, LiesIn, PointInto, jump_of, aim_of, aims_of, CallsInto, Refers, by_pointer, by_call}
@@ -40,28 +40,6 @@ any_of P xs x c p = (c.0, x, c.1, c.2, p)
 
 place_of : {X : Type 0} (xs : List X) (x : X) → Contains xs x → (k : ℕ) × (slice_get xs k ≡ Some x)
 place_of xs x c = (c.0, slice_get_read xs (length xs) c.0 x refl c.1 (sym c.2))
-
-bound : {X Y : Type 0} (o : Option X) (f : X → Option Y) (y : Y) → option_and_then f o ≡ Some y → (x : X) × (o ≡ Some x)
-bound None f y e = absurd (cc)
-bound (Some x) f y e = (x, refl)
-
-func_of : (o : Option Aim) (f : ℕ) → option_map aim_func o ≡ Some f → (s : Aim) × (o ≡ Some s)
-func_of None f e = absurd (cc)
-func_of (Some s) f e = (s, refl)
-
-site_listed : (p : Picture) (x f : ℕ) → site_of p x ≡ Some f → (s : Aim) × Contains p.sites s × (s.at ≡ x)
-unfolding site_of
-site_listed p x f e =
-    let s = func_of (find (λ s. aim_place s == x) p.sites) f e in
-    let c = found (λ s. aim_place s == x) p.sites s.0 s.1 in
-    (s.0, c.0, eqb-true (aim_place s.0) x c.1)
-
-second_listed : (p : Picture) (x f : ℕ) → second_of p x ≡ Some f → (s : Aim) × Contains p.pairs s × (s.at + 4 ≡ x)
-unfolding second_of
-second_listed p x f e =
-    let s = func_of (find (λ s. aim_place s + 4 == x) p.pairs) f e in
-    let c = found (λ s. aim_place s + 4 == x) p.pairs s.0 s.1 in
-    (s.0, c.0, eqb-true (aim_place s.0 + 4) x c.1)
 
 jump_is : (a rd : ℕ) (off : ℤ) (o : Option Instr) → o ≡ Some (Jal rd off) → jump_of a o ≡ Some (target a off)
 jump_is a rd off o e = rw e refl
@@ -165,7 +143,7 @@ module _ (p : Picture) (text : List TextRange) (lives : List Laid) (gone : List 
           → StaysClear gone_from (code_in p text lives) a
       site_clear a x to e at f rd off w = by_case (call_case a x at)
         where
-          g : (n : ℕ) × (site_of p x ≡ Some n)
+          g : (n : ℕ) × (site_of p x ≡ Some n) × (start_of p n ≡ Some to)
           g = bound (site_of p x) (start_of p) to f
 
           by_case : CallCase a x → gone_from (target a off) ≡ false
@@ -185,7 +163,7 @@ module _ (p : Picture) (text : List TextRange) (lives : List Laid) (gone : List 
           → StaysClear gone_from (code_in p text lives) a
       second_clear a x to e at f rd off w = by_case (call_case a x at)
         where
-          g : (n : ℕ) × (second_of p x ≡ Some n)
+          g : (n : ℕ) × (second_of p x ≡ Some n) × (start_of p n ≡ Some to)
           g = bound (second_of p x) (start_of p) to f
 
           by_case : CallCase a x → gone_from (target a off) ≡ false

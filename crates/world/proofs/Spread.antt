@@ -1,7 +1,7 @@
 -- A layout that is given up, and its range, which is free then.
 use Rattle.std.proofs.Common.{◌≡◌, ◌≢◌, ℕ, zero, suc, ◌+◌, ◌*◌, ◌%◌, ◌^◌, ◌<◌, ◌≤◌, ◌==◌, eqb, Bool, true, false, not, List, [], ◌∷◌, length, map, get_or, refl, sym, ap, ◌∙◌, subst, inl, inr, arith}
 use Rattle.std.specs.Prelude.{nat_le, nat_lt, ◌&&◌, ◌||◌, ◌⊎◌, ◌↔◌, All, AllPairs, Some, slice_get, if◌then◌else◌}
-use Rattle.std.specs.List.{list_any, remove, AllByRecursion}
+use Rattle.std.specs.List.{list_any, remove}
 use Rattle.std.proofs.lemmas.Bool.{cases_lt, and_parts, leb-true, ltb-true, le-leb, lt-ltb, eqb-true, eq-eqb}
 use Rattle.std.proofs.lemmas.List.{length-map, get_or-map}
 use Rattle.std.proofs.lemmas.List.Edits.{length-remove, get_or-remove_below, get_or-remove_above}
@@ -19,11 +19,9 @@ use Rattle.region.specs.Free.{Rises, is_free, range, put_before, put_here, put_i
 use Rattle.region.proofs.Giving.{given_rises, given_addresses}
 use Rattle.world.specs.Worlds.{covers}
 use Rattle.world.specs.Retiring.{AreSpread, range_of}
+use Rattle.world.proofs.FreeRanges.{AreWhole, same_test, covers_is}
 
 -- ---- free ranges begin at whole words
-abbrev AreWhole : List Range → Type 0
-AreWhole rs = AllByRecursion (λ r. r.from % 4 ≡ 0) rs
-
 whole_before : (r : Range) (rs : List Range) → r.from % 4 ≡ 0 → AreWhole rs → AreWhole (put_before r rs)
 whole_before r [] e h = (e, tt)
 whole_before r (s ∷ rs) e h = by_test (r.to == s.from)
@@ -85,9 +83,6 @@ apart_others lives k l e apart i d lt =
 pub covers_parts : (a : ℕ) (l : Laid) → covers a l ≡ true → (l.base ≤ a) × (a < l.base + 4 * length l.words)
 covers_parts a l e = let q = and_parts (nat_le l.base a) (nat_lt a (l.base + 4 * length l.words)) e in (leb-true l.base a q.0, ltb-true a (l.base + 4 * length l.words) q.1)
 
-pub covers_is : (a : ℕ) (l : Laid) → l.base ≤ a → a < l.base + 4 * length l.words → covers a l ≡ true
-covers_is a l p q = rw (le-leb l.base a p, lt-ltb a (l.base + 4 * length l.words) q) refl
-
 not_covered : (a : ℕ) (l m : Laid) → covers a l ≡ true → LieApart l m → covers a m ≡ false
 not_covered a l m e h = by_test (covers a m) refl
   where
@@ -101,12 +96,6 @@ not_covered a l m e h = by_test (covers a m) refl
 
 others_free : (a : ℕ) (l : Laid) (ms : List Laid) → covers a l ≡ true → All (LieApart l) ms → list_any (covers a) ms ≡ false
 others_free a l ms e h = list_any_none (covers a) ms (λ i d lt. not_covered a l (get_or ms i d) e (h i d lt))
-
-same_test : (x z : Bool) → (x ≡ true → z ≡ true) → (z ≡ true → x ≡ true) → x ≡ z
-same_test true true f g = refl
-same_test false false f g = refl
-same_test true false f g = sym (f refl)
-same_test false true f g = g refl
 
 -- ---- one layout is given up
 module _ (r : Range) (lives : List Laid) (free : List Range) (k : ℕ) (l : Laid) (e : slice_get lives k ≡ Some l) (s : AreSpread r lives free) where

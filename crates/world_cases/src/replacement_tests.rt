@@ -65,3 +65,17 @@ fn older_layouts_and_slots_are_sent_on(rt: HostRuntime) -> Result<(), Fail> {
     assert_eq!(rt; first_missing(rt.alloc(), SEVERAL)?.as_str(), "");
     Ok(())
 }
+
+const RETIREMENTS: &str = "\
+nothing refers to an older layout: recursion | real 7, replace 1:0 1 2, real 5, replace 1:2 1 0, real 7, retire, real 4, retire, real 100 = real 33 layout 0; attempts 2 done 2; retired 1; sites 2 slots 0; layout 2 12024 11; exit 6
+a dead word of the stack refers to it: dead link | real 7, replace 1:0 1 2, real 5, replace 1:2 1 0, real 20, retire, real 100 = real 43 layout 2; retired 0; layout 1 12000 9; layout 2 12024 11; exit 8
+and does no more: dead link | real 7, replace 1:0 1 2, real 5, replace 1:2 1 0, real 20, retire, real 9, retire, real 100 = real 43 layout 2; retired 1; layout 2 12024 11; exit 8
+a range is free again: countdown | replace 1:2 1 0, replace 1:2 1 0, retire, replace 1:2 1 0 = attempts 3 done 3; retired 1; layout 2 12024 9; layout 3 12000 9
+a slot refers to a layout: table | real 5, replace 1:0, retire, real 3 = retired 0; layout 1 13000 2; hart live 10020 13004; unfinished
+all calls are sent home: countdown | replace 1:2 1 0, replace , retire, real 100 = real 20 layout 0; attempts 2 done 2; retired 1; sites 0 slots 0; exit 28";
+
+#[test]
+fn what_nothing_refers_to_is_given_up(rt: HostRuntime) -> Result<(), Fail> {
+    assert_eq!(rt; first_missing(rt.alloc(), RETIREMENTS)?.as_str(), "");
+    Ok(())
+}

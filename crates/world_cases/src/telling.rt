@@ -18,7 +18,14 @@ fn replace(alloc: Global, world: &mut World, plan: &str) -> Result<(), Fail> {
     Ok(())
 }
 
-/// One command: `real N`, `step N` or a plan.
+fn retire(world: &mut World) -> Result<(), Fail> {
+    let Ok(_) = world.retire() else {
+        return Err(Fail::new("out of memory"));
+    };
+    Ok(())
+}
+
+/// One command: `real N`, `step N`, `retire` or a plan.
 fn obey(alloc: Global, world: &mut World, command: &str) -> Result<(), Fail> {
     let (word, rest) = command.split_once(' ').unwrap_or(("", ""));
     if word == "real" {
@@ -26,6 +33,9 @@ fn obey(alloc: Global, world: &mut World, command: &str) -> Result<(), Fail> {
     }
     if word == "step" {
         return steps(world, number(rest));
+    }
+    if command == "retire" {
+        return retire(world);
     }
     replace(alloc, world, rest)
 }
@@ -90,10 +100,10 @@ fn told(alloc: Global, world: &World) -> Result<String, Fail> {
         return Err(Fail::new("out of memory"));
     };
     let (real, layout) = (facts.real, facts.layout);
-    let (attempts, done) = (facts.attempts, facts.done);
+    let (attempts, done, retired) = (facts.attempts, facts.done, facts.retired);
     let (sites, slots) = (facts.sites, facts.slots);
     let mut text = format!(in alloc;
-        "real {real} layout {layout}\nattempts {attempts} done {done}\nsites {sites} slots {slots}\n"
+        "real {real} layout {layout}\nattempts {attempts} done {done}\nretired {retired}\nsites {sites} slots {slots}\n"
     )?;
     for refused in facts.refusals.as_slice() {
         let attempt = refused.attempt;
