@@ -1,5 +1,6 @@
 pub mod WholeHops
 pub mod Following
+pub mod Fetching
 pub mod LinksRise
 pub mod Lives
 pub mod Moving

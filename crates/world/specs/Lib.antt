@@ -1,3 +1,4 @@
+pub mod Fetching
 pub mod Replacing
 pub mod Runs
 pub mod Told
