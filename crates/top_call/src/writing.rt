@@ -1,0 +1,1 @@
+//! Writing to one device after the other.
