@@ -34,11 +34,11 @@ abbrev pub given_then : {G E : Type 0} → (refusal : Unread → E) → Result (
 given_then refusal (Ok bytes) next = next bytes
 given_then refusal (Err why) next = Err (refusal why)
 
--- what files and an input give, or the first refusal
+-- what files and an input give, or the first refusal; nothing is left of an input that was read
 abbrev pub given_by : {G E : Type 0} → (refusal : Unread → E) → Reading G E → Disk → (input : List ℕ) → Result G E
 given_by refusal (all_read result) disk input = result
 given_by refusal (a_file name limit next) disk input = given_then refusal (within name limit (disk name)) (λ bytes. given_by refusal (next bytes) disk input)
-given_by refusal (the_input next) disk input = given_then refusal (input_within input) (λ bytes. given_by refusal (next bytes) disk input)
+given_by refusal (the_input next) disk input = given_then refusal (input_within input) (λ bytes. given_by refusal (next bytes) disk [])
 
 -- Why the file of this name was given or not: to run out of memory needs no reason.
 abbrev pub FileCause : (name : List ℕ) (limit : ℕ) (before now : Outside) → Result (List ℕ) Unread → Type 0
