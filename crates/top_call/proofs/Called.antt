@@ -3,11 +3,12 @@ use Rattle.std.proofs.Common.{◌≡◌, ◌≢◌, ◌⊎◌, inl, inr, ℕ, su
 use Rattle.std.specs.Prelude.{IsErrOf}
 use Rattle.oc_base.specs.Outside.{Disk, Rose, RoseAtMost, Asks, gained, dropped, GainedPart, LostPart}
 use Rattle.oc_base.proofs.Told.{gained-gained, lost_more}
+use Rattle.oc_base.specs.declared.fault.Failed.{Failed as DeviceFailed}
 use Rattle.top_call.specs.declared.reading.Unread.{Unread}
 use Rattle.top_call.specs.declared.reading.Unread.TheVariants.{Failed, TooLong, NoMemory}
 use Rattle.top_call.specs.Outside.{Outside, Told, OnlyRead}
 use Rattle.top_call.specs.Reading.{Reading, all_read, a_file, the_input, within, input_within, given_then, given_by, FileCause, FileRead, InputCause, InputRead}
-use Rattle.top_call.specs.Writing.{Write, to_out, to_err, to_file, Whole, Broken, AllWritten, WriteFailed}
+use Rattle.top_call.specs.Writing.{Write, to_out, to_err, to_file, Whole, Broken, AllWritten, WriteFailed, Wrote, WroteAll}
 use Rattle.top_call.specs.Call.{TopCall, DecidesBy, Decides, Decided, Written, Delivered, AllDone, Excused, Settled, unread, unwritten, out_of_memory}
 
 -- ---- reading changes what is read alone
@@ -226,6 +227,16 @@ broken_writes [] a b none = absurd none
 broken_writes (w ∷ ws) a b (inl broken) = broken_write w a b broken
 broken_writes (w ∷ ws) a b (inr (then, whole, more)) = written_after a then b (whole_write w a then whole) (broken_writes ws then b more)
 
+-- one write
+pub one_write : (w : Write) (a b : Outside) (result : Result Unit DeviceFailed) → Wrote w a b result → AllWritten (w ∷ []) a b ⊎ WriteFailed (w ∷ []) a b
+one_write w a b (Ok done) is = inl (b, is, refl)
+one_write w a b (Err failed) is = inr (inl is)
+
+-- and another
+pub two_writes : (w v : Write) (a b c : Outside) (result : Result Unit DeviceFailed) → Whole w a b → Wrote v b c result → WroteAll (w ∷ v ∷ []) a c result
+two_writes w v a b c (Ok done) first is = (b, first, (c, is, refl))
+two_writes w v a b c (Err failed) first is = inr (b, first, inl is)
+
 module _ {G D E A : Type 0} (call : TopCall G D E A) where
   abbrev pub full : Result D E
   full = Err (call.refusal NoMemory)
@@ -314,12 +325,12 @@ module _ {G D E A : Type 0} (call : TopCall G D E A) where
   rose_still a b c wrote (inr rose) = inr (subst (Rose a.reads) (sym wrote.reads) rose)
 
   module _ (r : Reading G E) (disk : Disk) (all : List ℕ) (before read after : Outside) (d : Result D E) (answered : A) (only : OnlyRead before read) where
-    settled_if_whole : Told_of r disk all before read d → AllWritten (call.writes d) read after → answered ≡ call.answer d → AllDone call r disk all before after answered ⊎ Excused call before after answered
+    settled_if_whole : Told_of r disk all before read d → AllWritten (call.ending.writes d) read after → answered ≡ call.ending.answer d → AllDone call r disk all before after answered ⊎ Excused call before after answered
     settled_if_whole (asked_for is) written answer = inl (record { decision = d; decides = is; answer = answer; read = read; only = only; written = written })
-    settled_if_whole (failed name is rose) written answer = inr (unread name (answer ∙ ap call.answer is) (rose_still before read after (whole_writes (call.writes d) read after written) rose))
-    settled_if_whole (no_memory is) written answer = inr (out_of_memory (answer ∙ ap call.answer is))
+    settled_if_whole (failed name is rose) written answer = inr (unread name (answer ∙ ap call.ending.answer is) (rose_still before read after (whole_writes (call.ending.writes d) read after written) rose))
+    settled_if_whole (no_memory is) written answer = inr (out_of_memory (answer ∙ ap call.ending.answer is))
 
-    settled_if_told : Told_of r disk all before read d → Written call d read after answered → AllDone call r disk all before after answered ⊎ Excused call before after answered
+    settled_if_told : Told_of r disk all before read d → Written call.ending d read after answered → AllDone call r disk all before after answered ⊎ Excused call before after answered
     settled_if_told told (inl whole) = settled_if_whole told whole.0 whole.1
     settled_if_told told (inr broken) = inr (unwritten d read broken.1 only broken.0)
 

@@ -50,3 +50,8 @@ WriteFailed (w ∷ ws) before now = Broken w before now ⊎ ((then : Outside) ×
 abbrev pub Wrote : Write → (before now : Outside) → Result (Unit {0}) Failed → Type 0
 Wrote w before now (Ok done) = Whole w before now
 Wrote w before now (Err failed) = Broken w before now
+
+-- several, by what their devices answer
+abbrev pub WroteAll : List Write → (before now : Outside) → Result (Unit {0}) Failed → Type 0
+WroteAll ws before now (Ok done) = AllWritten ws before now
+WroteAll ws before now (Err failed) = WriteFailed ws before now
