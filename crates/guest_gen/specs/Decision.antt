@@ -19,7 +19,7 @@ use Rattle.guest_gen.specs.declared.answer.MadeWhat.{MadeWhat}
 use Rattle.guest_gen.specs.declared.answer.MadeWhat.TheVariants as made
 use Rattle.guest_gen.specs.declared.decision.NewFile.{NewFile}
 use Rattle.guest_gen.specs.declared.decision.Refusal.{Refusal}
-use Rattle.guest_gen.specs.declared.decision.Refusal.TheVariants.{ReadFault, TooLong, Fault, NoMemory}
+use Rattle.guest_gen.specs.declared.decision.Refusal.TheVariants.{Usage, ReadFault, TooLong, Fault, NoMemory}
 use Rattle.guest_gen.specs.declared.words.Form.{Form}
 use Rattle.guest_gen.specs.declared.words.Form.TheVariants.{Assemble, Generate}
 
@@ -33,10 +33,10 @@ pub data Wanted : Type 0 where
   a_guest : (n : ℕ) → (output : List ℕ) → Wanted
 
 -- what is read: the text, if the words ask for a text's program
-abbrev pub reading_for : Result Form Refusal → Reading Wanted Refusal
-reading_for (Ok (Assemble input output)) = a_file input text_limit (λ text. all_read (Ok (a_text text output)))
-reading_for (Ok (Generate n output)) = all_read (Ok (a_guest n output))
-reading_for (Err refusal) = all_read (Err refusal)
+abbrev pub reading_for : Option Form → Reading Wanted Refusal
+reading_for (Some (Assemble input output)) = a_file input text_limit (λ text. all_read (Ok (a_text text output)))
+reading_for (Some (Generate n output)) = all_read (Ok (a_guest n output))
+reading_for None = all_read (Err Usage)
 
 abbrev pub reading_of : (words : List (List ℕ)) → Reading Wanted Refusal
 reading_of words = reading_for (form_of words)
@@ -100,22 +100,26 @@ abbrev pub unwritten_of : Result NewFile Refusal → Made
 unwritten_of (Err NoMemory) = made_by made.NoMemory
 unwritten_of _ = made_by made.WriteFault
 
+-- how `make` ends
+abbrev pub ending : call.Ending NewFile Refusal Made
+ending = record { writes = writes_of; answer = λ d. made_by (what_of d); unwritten = unwritten_of }
+
 -- the call `make`
 abbrev pub make : call.TopCall Wanted NewFile Refusal Made
-make = record { delivers = Delivers; refusal = refusal_of; writes = writes_of; answer = λ d. made_by (what_of d); unwritten = unwritten_of }
+make = record { delivers = Delivers; refusal = refusal_of; ending = ending }
 
 -- what the words and the files ask for; there is no input
 abbrev pub Decides : List (List ℕ) → Disk → Result NewFile Refusal → Type 0
 Decides words disk d = call.Decides make (reading_of words) disk [] d
 
 -- the names of what is read, and of what is read and written, in the order in which the files are asked for them
-abbrev pub read : Result Form Refusal → List (List ℕ)
-read (Ok form) = inputs_of form
-read (Err refusal) = []
+abbrev pub read : Option Form → List (List ℕ)
+read (Some form) = inputs_of form
+read None = []
 
-abbrev pub named : Result Form Refusal → List (List ℕ)
-named (Ok form) = inputs_of form ++ output_of form ∷ []
-named (Err refusal) = []
+abbrev pub named : Option Form → List (List ℕ)
+named (Some form) = inputs_of form ++ output_of form ∷ []
+named None = []
 
 -- the text's name, if the words ask for a text's program
 abbrev pub read_of : List (List ℕ) → List (List ℕ)

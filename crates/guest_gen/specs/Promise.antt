@@ -1,5 +1,5 @@
 -- What `make` promises of its words, of what is known of files and outputs before it and after it, and of its answer.
-use Rattle.std.specs.Prelude.{◌≡◌, ◌≢◌, ◌⊎◌, ℕ, List, [], codes, Option, Some, None, Result, Ok, Err}
+use Rattle.std.specs.Prelude.{◌≡◌, ◌≢◌, ◌⊎◌, ℕ, List, [], codes, Option, Some, None, Result, Ok}
 use Rattle.std.specs.Option.{ForSome}
 use Rattle.oc_base.specs.Outside.{Disk, Rose, RoseAtMost, gained, GainedPart, Gains, HasNow, SameElsewhere, TakeFailed}
 use Rattle.top_call.specs.Call.{Settled, Delivered}
@@ -10,7 +10,6 @@ use Rattle.guest_gen.specs.declared.answer.MadeWhat.{MadeWhat}
 use Rattle.guest_gen.specs.declared.answer.MadeWhat.TheVariants as made
 use Rattle.guest_gen.specs.declared.decision.NewFile.{NewFile}
 use Rattle.guest_gen.specs.declared.decision.Refusal.{Refusal}
-use Rattle.guest_gen.specs.declared.decision.Refusal.TheVariants.{Usage}
 use Rattle.guest_gen.specs.declared.words.Form.TheVariants.{Assemble}
 use Rattle.guest_gen.specs.Answer.{status_of}
 use Rattle.guest_gen.specs.Decision.{make, reading_of, Decides, read_of, names_of}
@@ -34,14 +33,14 @@ pub record MakesFile (words : List (List ℕ)) (disk : Disk) (before after : Out
 pub record TextFailed (words : List (List ℕ)) (before after : Outside) : Type 0 where
   pub name : List ℕ
   pub output : List ℕ
-  pub first : form_of words ≡ Ok (Assemble name output)
+  pub first : form_of words ≡ Some (Assemble name output)
   pub failed : TakeFailed name after.asked before.takes after.takes
 
 -- The cause of each end, told or not, and the names that the files were asked for by then: none after `Usage`, the text's after a
 -- refusal of the text, and the file's too after `Done`.
 abbrev pub Cause : (words : List (List ℕ)) → (before after : Outside) → MadeWhat → Type 0
 Cause words before after made.Done = after.asked ≡ gained before.asked (names_of words)
-Cause words before after made.Usage = (form_of words ≡ Err Usage) × (after.asked ≡ before.asked)
+Cause words before after made.Usage = (form_of words ≡ None) × (after.asked ≡ before.asked)
 Cause words before after made.ReadFault = TextFailed words before after × (after.asked ≡ gained before.asked (read_of words))
 Cause words before after made.TooLong = after.asked ≡ gained before.asked (read_of words)
 Cause words before after (made.Asm fault) = (fault ≢ asm.NoMemory) × (after.asked ≡ gained before.asked (read_of words))

@@ -89,11 +89,22 @@ abbrev pub HasFault : (program : List ℕ) → Option Range → ProgramFault →
 HasFault bytes region (program.Elf fault) = elf.fault_of bytes ≡ Some fault
 HasFault bytes region (program.Image fault) = (elf.fault_of bytes ≡ None) × (built.fault_of (parts_of bytes) (region_in bytes region) ≡ Some fault)
 
+-- a refusal that is a fault of the program
+abbrev pub Refuses : (program : List ℕ) → Option Range → Ended → Type 0
+Refuses bytes region (Program fault) = HasFault bytes region fault
+Refuses bytes region _ = ⊥
+
 -- the world at the end of the run of an image under a script without a fault
 pub record IsRun (image : Picture) (text input : List ℕ) (world : Replaced) : Type 0 where
   pub fine : script.fault_of image text ≡ None
   pub range : AreInRange image (script.events_of image text)
   pub played : Played (script.events_of image text) (started image input) world
+
+-- what the run of an image delivers, or the script's first fault
+abbrev pub RunsTo : Picture → (text input : List ℕ) → (shown : Bool) → Result Delivery Ended → Type 0
+RunsTo image text input shown (Ok delivery) = (world : Replaced) × IsRun image text input world × (delivery ≡ delivery_of shown world)
+RunsTo image text input shown (Err (Script fault)) = script.fault_of image text ≡ Some fault
+RunsTo image text input shown (Err _) = ⊥
 
 -- What these bytes deliver.
 pub data Delivers (given : Given) : Result Delivery Ended → Type 0 where

@@ -1,6 +1,7 @@
 -- What follows from the form of a top call.
-use Rattle.std.proofs.Common.{◌≡◌, ◌≢◌, ◌⊎◌, inl, inr, ℕ, suc, List, [], ◌∷◌, ◌++◌, take, drop, append-nil, Option, Some, None, Result, Ok, Err, refl, ap, sym, subst, ◌∙◌}
+use Rattle.std.proofs.Common.{◌≡◌, ◌≢◌, ◌⊎◌, inl, inr, ℕ, suc, List, [], ◌∷◌, ◌++◌, take, drop, append-nil, append_assoc, Option, Some, None, Result, Ok, Err, refl, ap, sym, subst, ◌∙◌}
 use Rattle.std.specs.Prelude.{IsErrOf}
+use Rattle.std.specs.Option.{ForSome}
 use Rattle.oc_base.specs.Outside.{Disk, Rose, RoseAtMost, Asks, gained, dropped, GainedPart, LostPart}
 use Rattle.oc_base.proofs.Told.{gained-gained, lost_more}
 use Rattle.oc_base.specs.declared.fault.Failed.{Failed as DeviceFailed}
@@ -9,7 +10,7 @@ use Rattle.top_call.specs.declared.reading.Unread.TheVariants.{Failed, TooLong, 
 use Rattle.top_call.specs.Outside.{Outside, Told, OnlyRead}
 use Rattle.top_call.specs.Reading.{Reading, all_read, a_file, the_input, within, input_within, given_then, given_by, FileCause, FileRead, InputCause, InputRead}
 use Rattle.top_call.specs.Writing.{Write, to_out, to_err, to_file, Whole, Broken, AllWritten, WriteFailed, Wrote, WroteAll}
-use Rattle.top_call.specs.Call.{TopCall, DecidesBy, Decides, Decided, Written, Delivered, AllDone, Excused, Settled, unread, unwritten, out_of_memory}
+use Rattle.top_call.specs.Call.{TopCall, DecidesBy, Decides, Decided, Written, EndsWith, Delivered, AllDone, Excused, Settled, unread, unwritten, out_of_memory}
 
 -- ---- reading changes what is read alone
 
@@ -125,6 +126,9 @@ input_ends a b bytes all tells read =
 
 -- ---- names
 
+none_some : {A : Type 0} (x : A) → None ≡ Some x → ⊥
+none_some x is = cc
+
 pub gained_none : {A : Type 0} (told : Option (List A)) → gained told [] ≡ told
 gained_none None = refl
 gained_none (Some xs) = ap Some (append-nil xs)
@@ -137,7 +141,7 @@ asks_part before now name rest r (inl is) = record { count = 1; part = is }
 asks_part before now name rest r (inr same) = gained_nothing before now (name ∷ rest) same.0
 
 -- a name was asked for where its bytes are given
-asked_it : (before now : Option (List (List ℕ))) (name bytes : List ℕ) → Asks NoMemory before now name (Ok bytes) → now ≡ gained before (name ∷ [])
+pub asked_it : (before now : Option (List (List ℕ))) (name bytes : List ℕ) → Asks NoMemory before now name (Ok bytes) → now ≡ gained before (name ∷ [])
 asked_it before now name bytes (inl is) = is
 asked_it before now name bytes (inr room) = absurd (no_ok bytes NoMemory room.1)
 
@@ -146,6 +150,12 @@ asks_more before then now name rest first part = record {
   count = suc part.count;
   part = part.part ∙ ap (λ told. gained told (take part.count rest)) first ∙ gained-gained before (name ∷ []) (take part.count rest);
 }
+
+-- the name that was asked for last
+pub last_asked : (before now : Option (List (List ℕ))) (first : List (List ℕ)) (name : List ℕ) → now ≡ gained before (first ++ name ∷ []) → ForSome now (λ names. (earlier : List (List ℕ)) × (names ≡ earlier ++ name ∷ []))
+last_asked None now first name is = λ names tells. absurd (none_some names (sym is ∙ tells))
+last_asked (Some told) now first name is = λ names tells.
+    (told ++ first, some_once _ _ (sym tells ∙ is) ∙ sym (append_assoc told first (name ∷ [])))
 
 -- ---- writing
 
@@ -218,6 +228,48 @@ written_after a b c first second = record {
   errs = rose_as a.errs b.errs c.errs first.errs second.errs;
 }
 
+-- no write takes back what was read
+pub record Frame (a b : Outside) : Type 0 where
+  pub disk : b.disk ≡ a.disk
+  pub out : b.out ≡ a.out
+  pub err : b.err ≡ a.err
+  pub puts : b.puts ≡ a.puts
+  pub outs : b.outs ≡ a.outs
+  pub errs : b.errs ≡ a.errs
+
+pub frame : (a b : Outside) → OnlyRead a b → Frame a b
+frame a b only = record {
+  disk = ap (λ (x : Outside). x.disk) only;
+  out = ap (λ (x : Outside). x.out) only;
+  err = ap (λ (x : Outside). x.err) only;
+  puts = ap (λ (x : Outside). x.puts) only;
+  outs = ap (λ (x : Outside). x.outs) only;
+  errs = ap (λ (x : Outside). x.errs) only;
+}
+
+-- The line of a refusal was written whole.
+pub err_written : (line : List ℕ) (a b : Outside) → AllWritten (to_err line ∷ []) a b → b ≡ record a { err = gained a.err line }
+err_written line a b (then, whole, same) = same ∙ whole
+
+-- Each device failed once at most in a whole call.
+pub record FailsOnce (a b : Outside) : Type 0 where
+  pub left : LostPart a.left b.left
+  pub takes : RoseAtMost a.takes b.takes
+  pub reads : RoseAtMost a.reads b.reads
+  pub puts : RoseAtMost a.puts b.puts
+  pub outs : RoseAtMost a.outs b.outs
+  pub errs : RoseAtMost a.errs b.errs
+
+pub fails_once : (a b c : Outside) → OnlyRead a b → HasRead a b → HasWritten b c → FailsOnce a c
+fails_once a b c only read wrote = let kept = frame a b only in record {
+  left = subst (LostPart a.left) (sym wrote.left) read.left;
+  takes = subst (RoseAtMost a.takes) (sym wrote.takes) read.takes;
+  reads = subst (RoseAtMost a.reads) (sym wrote.reads) read.reads;
+  puts = rose_as a.puts b.puts c.puts kept.puts wrote.puts;
+  outs = rose_as a.outs b.outs c.outs kept.outs wrote.outs;
+  errs = rose_as a.errs b.errs c.errs kept.errs wrote.errs;
+}
+
 pub whole_writes : (ws : List Write) (a b : Outside) → AllWritten ws a b → HasWritten a b
 whole_writes [] a b same = subst (HasWritten a) (sym same) (record { left = refl; takes = refl; reads = refl; puts = inl refl; outs = inl refl; errs = inl refl })
 whole_writes (w ∷ ws) a b (then, whole, more) = written_after a then b (whole_write w a then whole) (whole_writes ws then b more)
@@ -274,36 +326,36 @@ module _ {G D E A : Type 0} (call : TopCall G D E A) where
 
   -- Where files and input tell, what was decided is what they ask for, but for a fault and when out of memory.
   pub data Told_of (r : Reading G E) (disk : Disk) (all : List ℕ) (a b : Outside) (d : Result D E) : Type 0 where
-    asked_for : Decides call r disk all d → Told_of r disk all a b d
-    failed : (name : List ℕ) → d ≡ Err (call.refusal (Failed name)) → Rose a.takes b.takes ⊎ Rose a.reads b.reads → Told_of r disk all a b d
-    no_memory : d ≡ full → Told_of r disk all a b d
+    told_whole : Decides call r disk all d → Told_of r disk all a b d
+    told_fault : (name : List ℕ) → d ≡ Err (call.refusal (Failed name)) → Rose a.takes b.takes ⊎ Rose a.reads b.reads → Told_of r disk all a b d
+    told_full : d ≡ full → Told_of r disk all a b d
 
   -- a step gave bytes, and then
   after_step : (r next : Reading G E) (disk : Disk) (all left : List ℕ) (a then b : Outside) (d : Result D E)
       → given_by call.refusal r disk all ≡ given_by call.refusal next disk left → (then.takes ≡ a.takes) × (then.reads ≡ a.reads) → Told_of next disk left then b d → Told_of r disk all a b d
-  after_step r next disk all left a then b d same quiet (asked_for is) = asked_for (subst (λ g. DecidesBy call g d) (sym same) is)
-  after_step r next disk all left a then b d same quiet (failed name is rose) =
-      failed name is (subst (λ x. Rose x b.takes ⊎ Rose a.reads b.reads) quiet.0 (subst (λ x. Rose then.takes b.takes ⊎ Rose x b.reads) quiet.1 rose))
-  after_step r next disk all left a then b d same quiet (no_memory is) = no_memory is
+  after_step r next disk all left a then b d same quiet (told_whole is) = told_whole (subst (λ g. DecidesBy call g d) (sym same) is)
+  after_step r next disk all left a then b d same quiet (told_fault name is rose) =
+      told_fault name is (subst (λ x. Rose x b.takes ⊎ Rose a.reads b.reads) quiet.0 (subst (λ x. Rose then.takes b.takes ⊎ Rose x b.reads) quiet.1 rose))
+  after_step r next disk all left a then b d same quiet (told_full is) = told_full is
 
   -- a step refused
   file_refused : (name : List ℕ) (limit : ℕ) (next : List ℕ → Reading G E) (disk : Disk) (all : List ℕ) (a b : Outside) (d : Result D E) (why : Unread) → a.disk ≡ Some disk
       → FileCause name limit a b (Err why) → d ≡ Err (call.refusal why) → Told_of (a_file name limit next) disk all a b d
-  file_refused name limit next disk all a b d (Failed given) tells cause is = failed given is (inl cause.1)
+  file_refused name limit next disk all a b d (Failed given) tells cause is = told_fault given is (inl cause.1)
   file_refused name limit next disk all a b d (TooLong given) tells cause is =
-      asked_for (subst (λ w. DecidesBy call (given_then call.refusal w (λ bytes. given_by call.refusal (next bytes) disk all)) d) (sym (cause.1 disk tells ∙ ap (λ n. Err (TooLong n)) (sym cause.0))) is)
-  file_refused name limit next disk all a b d NoMemory tells cause is = no_memory is
+      told_whole (subst (λ w. DecidesBy call (given_then call.refusal w (λ bytes. given_by call.refusal (next bytes) disk all)) d) (sym (cause.1 disk tells ∙ ap (λ n. Err (TooLong n)) (sym cause.0))) is)
+  file_refused name limit next disk all a b d NoMemory tells cause is = told_full is
 
   input_refused : (next : List ℕ → Reading G E) (disk : Disk) (all : List ℕ) (a b : Outside) (d : Result D E) (why : Unread) → a.left ≡ Some all
       → InputCause a b (Err why) → d ≡ Err (call.refusal why) → Told_of (the_input next) disk all a b d
-  input_refused next disk all a b d (Failed given) tells cause is = failed given is (inr cause.1)
+  input_refused next disk all a b d (Failed given) tells cause is = told_fault given is (inr cause.1)
   input_refused next disk all a b d (TooLong given) tells cause is =
-      asked_for (subst (λ w. DecidesBy call (given_then call.refusal w (λ bytes. given_by call.refusal (next bytes) disk [])) d) (sym (cause.1 all tells ∙ ap (λ n. Err (TooLong n)) (sym cause.0))) is)
-  input_refused next disk all a b d NoMemory tells cause is = no_memory is
+      told_whole (subst (λ w. DecidesBy call (given_then call.refusal w (λ bytes. given_by call.refusal (next bytes) disk [])) d) (sym (cause.1 all tells ∙ ap (λ n. Err (TooLong n)) (sym cause.0))) is)
+  input_refused next disk all a b d NoMemory tells cause is = told_full is
 
   pub told_of : (r : Reading G E) (disk : Disk) (all : List ℕ) (a b : Outside) (d : Result D E) → a.disk ≡ Some disk → a.left ≡ Some all → Decided call r a b d → Told_of r disk all a b d
-  told_of (all_read g) disk all a b d tells tells' (same, inl is) = asked_for is
-  told_of (all_read g) disk all a b d tells tells' (same, inr is) = no_memory is
+  told_of (all_read g) disk all a b d tells tells' (same, inl is) = told_whole is
+  told_of (all_read g) disk all a b d tells tells' (same, inr is) = told_full is
   told_of (a_file name limit next) disk all a b d tells tells' (inl (why, read, is)) = file_refused name limit next disk all a b d why tells read.cause is
   told_of (a_file name limit next) disk all a b d tells tells' (inr (bytes, then, read, more)) =
       after_step (a_file name limit next) (next bytes) disk all all a then b d
@@ -326,9 +378,9 @@ module _ {G D E A : Type 0} (call : TopCall G D E A) where
 
   module _ (r : Reading G E) (disk : Disk) (all : List ℕ) (before read after : Outside) (d : Result D E) (answered : A) (only : OnlyRead before read) where
     settled_if_whole : Told_of r disk all before read d → AllWritten (call.ending.writes d) read after → answered ≡ call.ending.answer d → AllDone call r disk all before after answered ⊎ Excused call before after answered
-    settled_if_whole (asked_for is) written answer = inl (record { decision = d; decides = is; answer = answer; read = read; only = only; written = written })
-    settled_if_whole (failed name is rose) written answer = inr (unread name (answer ∙ ap call.ending.answer is) (rose_still before read after (whole_writes (call.ending.writes d) read after written) rose))
-    settled_if_whole (no_memory is) written answer = inr (out_of_memory (answer ∙ ap call.ending.answer is))
+    settled_if_whole (told_whole is) written answer = inl (record { decision = d; decides = is; answer = answer; read = read; only = only; written = written })
+    settled_if_whole (told_fault name is rose) written answer = inr (unread name (answer ∙ ap call.ending.answer is) (rose_still before read after (whole_writes (call.ending.writes d) read after written) rose))
+    settled_if_whole (told_full is) written answer = inr (out_of_memory (answer ∙ ap call.ending.answer is))
 
     settled_if_told : Told_of r disk all before read d → Written call.ending d read after answered → AllDone call r disk all before after answered ⊎ Excused call before after answered
     settled_if_told told (inl whole) = settled_if_whole told whole.0 whole.1
@@ -339,6 +391,19 @@ module _ {G D E A : Type 0} (call : TopCall G D E A) where
   settles r before after answered m = λ disk tells all tells'.
       settled_if_told r disk all before m.read after m.decision answered (decided_only r before m.read m.decision m.decided)
       (told_of r disk all before m.read m.decision tells tells' m.decided) m.written
+
+  -- what was decided, and how that ended
+  pub delivered : (r : Reading G E) (before read after : Outside) (d : Result D E) (answered : A) → Decided call r before read d → EndsWith call.ending (call.refusal NoMemory) d read after answered → Delivered call r before after answered
+  delivered r before read after d answered decided (inl written) = record { decision = d; read = read; decided = decided; written = written }
+  delivered r before read after d answered decided (inr written) = record { decision = full; read = read; decided = full_after r before read d decided; written = written }
+
+  pub has_written : (d : Result D E) (read after : Outside) (answered : A) → Written call.ending d read after answered → HasWritten read after
+  has_written d read after answered (inl whole) = whole_writes (call.ending.writes d) read after whole.0
+  has_written d read after answered (inr broken) = broken_writes (call.ending.writes d) read after broken.0
+
+  pub all_fail_once : (r : Reading G E) (before after : Outside) (answered : A) → Delivered call r before after answered → FailsOnce before after
+  all_fail_once r before after answered m =
+      fails_once before m.read after (decided_only r before m.read m.decision m.decided) (has_read r before m.read m.decision m.decided) (has_written m.decision m.read after answered m.written)
 
   -- ---- the names that the files were asked for
 

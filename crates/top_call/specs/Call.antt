@@ -29,6 +29,10 @@ Written ending d read after answered =
 abbrev pub EndsWith : {D E A : Type 0} → Ending D E A → (no_memory : E) → Result D E → (read after : Outside) → A → Type 0
 EndsWith ending no_memory d read after answered = Written ending d read after answered ⊎ Written ending (Err no_memory) read after answered
 
+-- This is so of a decision, or memory ran out.
+abbrev pub UnlessFull : {D E : Type 0} → (no_memory : E) → (is : Result D E → Type 0) → Result D E → Type 0
+UnlessFull no_memory is d = is d ⊎ (d ≡ Err no_memory)
+
 module _ {G D E A : Type 0} (call : TopCall G D E A) where
   -- what is given asks for this, or the refusal is what is asked for
   abbrev pub DecidesBy : Result G E → Result D E → Type 0
@@ -41,7 +45,7 @@ module _ {G D E A : Type 0} (call : TopCall G D E A) where
 
   -- This was decided, at its place and for its reason, told or not; nothing else was read, and nothing was written. Memory may run out anywhere.
   abbrev pub Decided : Reading G E → (before now : Outside) → Result D E → Type 0
-  Decided (all_read result) before now d = (now ≡ before) × (DecidesBy result d ⊎ (d ≡ Err (call.refusal NoMemory)))
+  Decided (all_read result) before now d = (now ≡ before) × UnlessFull (call.refusal NoMemory) (DecidesBy result) d
   Decided (a_file name limit next) before now d =
       ((why : Unread) × FileRead name limit before now (Err why) × (d ≡ Err (call.refusal why)))
       ⊎ ((bytes : List ℕ) × (then : Outside) × FileRead name limit before then (Ok bytes) × Decided (next bytes) then now d)

@@ -1,6 +1,6 @@
 //! Reading a whole file, and the whole input.
 
-ghost use Rattle.std.specs.Prelude.{◌≡◌};
+ghost use Rattle.std.specs.Prelude.{◌≡◌, ◌≤◌, IfOk, length};
 ghost use Rattle.oc_base.specs.Outside.{Asks, LostPart};
 ghost use Rattle.top_call.specs.Outside.{Outside, with_files, with_input};
 ghost use Rattle.top_call.specs.Reading.{FileCause, FileRead, InputCause, InputRead};
@@ -35,6 +35,7 @@ fn take_file<F: Files>(
     ensures asked { Asks Unread.NoMemory (F.asked files.old) (F.asked files.new) name.now result }
     ensures disk { F.disk files.new ≡ F.disk files.old }
     ensures puts { F.put_faults files.new ≡ F.put_faults files.old }
+    ensures within { IfOk result (λ bytes. length bytes ≤ limit) }
 {
     match files.take(alloc, name, limit) {
         Ok(bytes) => Ok(Items::from_vec(bytes)),
@@ -61,7 +62,8 @@ pub fn fetch<F: Files>(
     name: &str,
     limit: usize,
 ) -> Result<Items<u8>, Unread>
-    ensures { (rest : Outside) → FileRead name.now limit (with_files F.Files files.old rest) (with_files F.Files files.new rest) result }
+    ensures read { (rest : Outside) → FileRead name.now limit (with_files F.Files files.old rest) (with_files F.Files files.new rest) result }
+    ensures within { IfOk result (λ bytes. length bytes ≤ limit) }
 {
     take_file(alloc, files, name, limit)
 }
