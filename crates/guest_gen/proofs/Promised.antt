@@ -11,7 +11,7 @@ use Rattle.top_call.specs.Reading.{FileRead}
 use Rattle.top_call.specs.Writing.{to_out, to_err, to_file, FileWritten, Whole, Broken, AllWritten, WriteFailed, Wrote, WroteAll}
 use Rattle.top_call.specs.declared.reading.Unread.{Unread}
 use Rattle.top_call.specs.declared.reading.Unread.TheVariants as unread
-use Rattle.top_call.proofs.Called.{Told_of, told_whole, told_fault, told_full, Along, Frame, frame, two_writes, err_written, asked_part, decided_only, told_of, settles, all_fail_once, asked_it, last_asked, gained_none, gained_nothing}
+use Rattle.top_call.proofs.Called.{Told_of, told_whole, told_fault, told_full, Along, Frame, frame, two_writes, err_written, asked_part, decided_only, told_of, settles, all_fail_once, asked_it, asked_for, last_asked, gained_none, gained_nothing}
 use Rattle.rv_asm.specs.declared.fault.AsmFault.TheVariants as asm
 use Rattle.guest_gen.specs.declared.answer.Made.{Made}
 use Rattle.guest_gen.specs.declared.answer.MadeWhat.{MadeWhat}
@@ -84,15 +84,11 @@ full_asked : (before now : Option (List (List ℕ))) (name : List ℕ) → Asks 
 full_asked before now name (inl is) = record { count = 1; part = is }
 full_asked before now name (inr is) = gained_nothing before now (name ∷ []) is.0
 
-no_room : (why : Unread) → why ≢ unread.NoMemory → (before now : Option (List (List ℕ))) (name : List ℕ) → Asks {T = List ℕ} unread.NoMemory before now name (Err why) → now ≡ gained before (name ∷ [])
-no_room why other before now name (inl is) = is
-no_room why other before now name (inr is) = absurd (other (let e = is.1 in cc))
-
 text_refused_at : (i o : List ℕ) (a b : Outside) (why : Unread) → FileRead i text_limit a b (Err why) → RefusedAt (Some (Assemble i o)) a b (refusal_of why)
 text_refused_at i o a b (unread.Failed given) text =
     subst (λ name. RefusedAt (Some (Assemble i o)) a b (ReadFault name)) (sym text.cause.0)
-    (o, refl, text.cause.1, no_room (unread.Failed given) (λ is. cc) a.asked b.asked i text.asked)
-text_refused_at i o a b (unread.TooLong given) text = no_room (unread.TooLong given) (λ is. cc) a.asked b.asked i text.asked
+    (o, refl, text.cause.1, asked_for a.asked b.asked i (unread.Failed given) (λ is. cc) text.asked)
+text_refused_at i o a b (unread.TooLong given) text = asked_for a.asked b.asked i (unread.TooLong given) (λ is. cc) text.asked
 text_refused_at i o a b unread.NoMemory text = full_asked a.asked b.asked i text.asked
 
 assembled_at : (i o text : List ℕ) (a b : Outside) (r : Refusal) → Assembles text o (Err r) → b.asked ≡ gained a.asked (i ∷ []) → RefusedAt (Some (Assemble i o)) a b r

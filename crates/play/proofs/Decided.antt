@@ -12,7 +12,7 @@ use Rattle.report.specs.Cause.{refusal_of}
 use Rattle.report.specs.declared.answer.Ended.{Ended}
 use Rattle.report.specs.declared.answer.Ended.TheVariants.{Ran, Usage, ReadFault, TooLong, Program, Script, WriteFault, NoMemory}
 use Rattle.report.specs.declared.writing.Delivery.{Delivery}
-use Rattle.play.specs.Decision.{program_limit, script_limit, Given, reading_for, IsBuilt, Refuses, IsRun, RunsTo, delivery_of, Delivers, bad_program, bad_script, ran, play}
+use Rattle.play.specs.Decision.{program_limit, script_limit, Given, reading_for, IsBuilt, Refuses, RunsTo, delivery_of, Delivers, bad_program, bad_script, ran, play}
 use Rattle.sched_log.specs.Ranges.{AreInRange}
 use Rattle.sched_log.specs.Script.{fault_of, events_of}
 use Rattle.sched_log.specs.declared.event.Event.{Event}
@@ -27,8 +27,11 @@ words_refused w a none = subst (λ x. Decided play (reading_for x) a a (Err Usag
 pub words_full : (w : Option Words) (a : Outside) → Decided play (reading_for w) a a (Err NoMemory)
 words_full w a = full_before play (reading_for w) a
 
-as_refused : (e : Ended) (why : Unread) → e ≡ refusal_of why → Err {T = Delivery} e ≡ Err (refusal_of why)
-as_refused e why is = ap (λ x. Err x) is
+abbrev refused : Ended → Result Delivery Ended
+refused e = Err e
+
+as_refused : (e : Ended) (why : Unread) → e ≡ refusal_of why → refused e ≡ refused (refusal_of why)
+as_refused e why is = ap refused is
 
 -- what is read, with what the words say
 abbrev pub given-with : Words → (program script input : List ℕ) → Given
@@ -55,7 +58,7 @@ module _ (w : Option Words) (said : Words) (form : w ≡ Some said) (a b : Outsi
 
 -- a program that is refused delivers this refusal
 pub refused_program : (given : Given) (e : Ended) → Refuses given.program given.region e ⊎ (e ≡ NoMemory) → UnlessFull NoMemory (Delivers given) (Err e)
-refused_program given e (inr is) = inr (ap (λ x. Err x) is)
+refused_program given e (inr is) = inr (ap refused is)
 refused_program given (Program fault) (inl is) = inl (bad_program fault is)
 refused_program given (Ran outcome) (inl is) = absurd is
 refused_program given Usage (inl is) = absurd is

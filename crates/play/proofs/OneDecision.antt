@@ -21,7 +21,7 @@ use Rattle.world.specs.Runs.{Atom, a_step, a_real_step, a_replacement, IsRun}
 use Rattle.play.specs.Events.{atoms_of, turns, Plays}
 use Rattle.play.specs.Ready.{CanObey, AreReady}
 use Rattle.report.specs.Cause.{refusal_of}
-use Rattle.play.specs.Decision.{region_in, Given, reading_of, HasFault, IsBuilt, IsRun, Delivers, bad_program, bad_script, ran, play, Decides, delivery_of}
+use Rattle.play.specs.Decision.{region_in, Given, reading_of, HasFault, IsBuilt, IsPlayed, Delivers, bad_program, bad_script, ran, play, Decides, delivery_of}
 use Rattle.machine.specs.States.{State}
 use Rattle.machine.specs.Start.{start_of}
 use Rattle.machine.specs.Steps.{original_run}
@@ -67,9 +67,9 @@ module _ (laws : Laws) (one : OneResult) where
       one_end es a.2 b.2 a.0 u v (original_run w.image a.1 o) (ready_next e es w a.0 ready (a.1, a.3)) next a.5 (subst (λ x. Plays es b.2 x v) (sym same) b.5)
 
   -- an image, a script and an input have one world at the end
-  one_world : (given : Given) (p q : Picture) (u v : Replaced) → IsBuilt given.program given.region p → IsBuilt given.program given.region q → IsRun p given.script given.input u → IsRun q given.script given.input v → u ≡ v
+  one_world : (given : Given) (p q : Picture) (u v : Replaced) → IsBuilt given.program given.region p → IsBuilt given.program given.region q → IsPlayed p given.script given.input u → IsPlayed q given.script given.input v → u ≡ v
   one_world given p q u v built built' a b' =
-      let b : IsRun p given.script given.input v = subst (λ x. IsRun x given.script given.input v) (sym (one_built given.program given.region p q built built')) b' in
+      let b : IsPlayed p given.script given.input v = subst (λ x. IsPlayed x given.script given.input v) (sym (one_built given.program given.region p q built built')) b' in
       one_end (events_of p given.script) a.played.0 b.played.0 (started p given.input) u v (start_of p given.input) (ready_first p given.input (events_of p given.script) a.range) (laws.start p given.input built.kept) a.played.1 b.played.1
 
   -- a script with a fault has one, and no run

@@ -17,7 +17,7 @@ use Rattle.world.specs.Worlds.{Replaced, Related, started}
 use Rattle.play.specs.Events.{Plays}
 use Rattle.play.specs.Schedule.{final_state, schedule}
 use Rattle.report.specs.Cause.{refusal_of}
-use Rattle.play.specs.Decision.{Given, reading_of, IsBuilt, IsRun, Delivers, bad_program, bad_script, ran, play, Decides, closed, outcome_of, delivery_of}
+use Rattle.play.specs.Decision.{Given, reading_of, IsBuilt, IsPlayed, Delivers, bad_program, bad_script, ran, play, Decides, closed, outcome_of, delivery_of}
 use Rattle.play.specs.Originals.{ShowsAs, IsOriginals, RunsOriginally}
 use Rattle.play.proofs.Laws.{Stands, Laws}
 use Rattle.play.proofs.ReadyNext.{ready_first}
@@ -35,11 +35,14 @@ shows shown w o d is at = record {
 no_refusal : (d : Delivery) (e : Ended) → Err e ≡ Ok d → ⊥
 no_refusal d e is = cc
 
-same_delivery : (d e : Delivery) → Ok {E = Ended} d ≡ Ok e → e ≡ d
+abbrev shown_as : Delivery → Result Delivery Ended
+shown_as d = Ok d
+
+same_delivery : (d e : Delivery) → shown_as d ≡ shown_as e → e ≡ d
 same_delivery d e is = cc
 
 module _ (laws : Laws) where
-  originals : (given : Given) (image : Picture) (w : Replaced) (d : Delivery) → IsBuilt given.program given.region image → IsRun image given.script given.input w → d ≡ delivery_of given.shown w → IsOriginals given d
+  originals : (given : Given) (image : Picture) (w : Replaced) (d : Delivery) → IsBuilt given.program given.region image → IsPlayed image given.script given.input w → d ≡ delivery_of given.shown w → IsOriginals given d
   unfolding final_state
   originals given image w d built is e =
       let events = events_of image given.script in

@@ -95,14 +95,14 @@ Refuses bytes region (Program fault) = HasFault bytes region fault
 Refuses bytes region _ = ⊥
 
 -- the world at the end of the run of an image under a script without a fault
-pub record IsRun (image : Picture) (text input : List ℕ) (world : Replaced) : Type 0 where
+pub record IsPlayed (image : Picture) (text input : List ℕ) (world : Replaced) : Type 0 where
   pub fine : script.fault_of image text ≡ None
   pub range : AreInRange image (script.events_of image text)
   pub played : Played (script.events_of image text) (started image input) world
 
 -- what the run of an image delivers, or the script's first fault
 abbrev pub RunsTo : Picture → (text input : List ℕ) → (shown : Bool) → Result Delivery Ended → Type 0
-RunsTo image text input shown (Ok delivery) = (world : Replaced) × IsRun image text input world × (delivery ≡ delivery_of shown world)
+RunsTo image text input shown (Ok delivery) = (world : Replaced) × IsPlayed image text input world × (delivery ≡ delivery_of shown world)
 RunsTo image text input shown (Err (Script fault)) = script.fault_of image text ≡ Some fault
 RunsTo image text input shown (Err _) = ⊥
 
@@ -110,7 +110,7 @@ RunsTo image text input shown (Err _) = ⊥
 pub data Delivers (given : Given) : Result Delivery Ended → Type 0 where
   bad_program : (fault : ProgramFault) → HasFault given.program given.region fault → Delivers given (Err (Program fault))
   bad_script : (image : Picture) (fault : ScriptFault) → IsBuilt given.program given.region image → script.fault_of image given.script ≡ Some fault → Delivers given (Err (Script fault))
-  ran : (image : Picture) (world : Replaced) → IsBuilt given.program given.region image → IsRun image given.script given.input world → Delivers given (Ok (delivery_of given.shown world))
+  ran : (image : Picture) (world : Replaced) → IsBuilt given.program given.region image → IsPlayed image given.script given.input world → Delivers given (Ok (delivery_of given.shown world))
 
 -- the call `play`
 abbrev pub play : call.TopCall Given Delivery Ended Answer

@@ -68,7 +68,7 @@ pub fn play<F: Files, I: Source, O: Sink, E: Sink>(
     out: &mut O,
     err: &mut E,
 ) -> Answer
-    ensures promise { Promise (map string_bytes words.now)
+    ensures { Promise (map string_bytes words.now)
         (with_files F.Files files.old (with_input I.Source input.old (with_out O.Sink out.old (with_err E.Sink err.old no_device))))
         (with_files F.Files files.new (with_input I.Source input.new (with_out O.Sink out.new (with_err E.Sink err.new no_device)))) result }
 {

@@ -151,6 +151,11 @@ asks_more before then now name rest first part = record {
   part = part.part ∙ ap (λ told. gained told (take part.count rest)) first ∙ gained-gained before (name ∷ []) (take part.count rest);
 }
 
+-- and where there was room for the reason
+pub asked_for : (before now : Option (List (List ℕ))) (name : List ℕ) (why : Unread) → why ≢ NoMemory → Asks {T = List ℕ} NoMemory before now name (Err why) → now ≡ gained before (name ∷ [])
+asked_for before now name why other (inl is) = is
+asked_for before now name why other (inr room) = absurd (other (let is = room.1 in cc))
+
 -- the name that was asked for last
 pub last_asked : (before now : Option (List (List ℕ))) (first : List (List ℕ)) (name : List ℕ) → now ≡ gained before (first ++ name ∷ []) → ForSome now (λ names. (earlier : List (List ℕ)) × (names ≡ earlier ++ name ∷ []))
 last_asked None now first name is = λ names tells. absurd (none_some names (sym is ∙ tells))
