@@ -1,5 +1,5 @@
 -- How a decision follows from its steps.
-use Rattle.std.proofs.Common.{◌≡◌, inl, inr, ℕ, List, Option, Some, None, Result, Ok, Err, ap, sym, subst, refl}
+use Rattle.std.proofs.Common.{◌≡◌, inl, inr, ℕ, List, Option, Some, Result, Ok, Err, ap, sym, subst, refl}
 use Rattle.top_call.specs.Call.{Decided, UnlessFull}
 use Rattle.top_call.specs.Outside.{Outside}
 use Rattle.top_call.specs.Reading.{FileRead}

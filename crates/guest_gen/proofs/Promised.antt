@@ -2,11 +2,11 @@
 use Rattle.std.proofs.Common.{◌≡◌, ◌≢◌, ◌⊎◌, inl, inr, ℕ, zero, suc, List, [], ◌∷◌, ◌++◌, take, length, Option, Some, None, Result, Ok, Err, IfOk, OnErr, refl, ap, sym, subst, ◌∙◌, arith}
 use Rattle.std.proofs.lemmas.List.{take_all}
 use Rattle.std.specs.Option.{ForSome}
-use Rattle.oc_base.specs.Outside.{Disk, Rose, RoseAtMost, gained, Asks, GainedPart, Gains, HasNow, SameElsewhere, TakeFailed}
+use Rattle.oc_base.specs.Outside.{Disk, Rose, gained, Asks, GainedPart, Gains, HasNow, SameElsewhere}
 use Rattle.oc_base.proofs.Told.{gained-gained}
 use Rattle.oc_base.specs.declared.fault.Failed.{Failed as DeviceFailed}
 use Rattle.top_call.specs.Call.{Decided, Delivered, Written}
-use Rattle.top_call.specs.Outside.{Outside, OnlyRead}
+use Rattle.top_call.specs.Outside.{Outside}
 use Rattle.top_call.specs.Reading.{FileRead}
 use Rattle.top_call.specs.Writing.{to_out, to_err, to_file, FileWritten, Whole, Broken, AllWritten, WriteFailed, Wrote, WroteAll}
 use Rattle.top_call.specs.declared.reading.Unread.{Unread}
@@ -281,13 +281,15 @@ module _ (words : List (List ℕ)) (before after : Outside) where
   refused_cause : (r : Refusal) (mid : Outside) → r ≢ NoMemory → RefusedAt (form_of words) before mid r → after ≡ record mid { err = gained mid.err (line_of r) } → Cause words before after (what_of (Err r))
   refused_cause Usage mid other at is = (at.0, ap (λ (x : Outside). x.asked) is ∙ at.1)
   refused_cause (ReadFault name) mid other at is =
-      let asked : after.asked ≡ gained before.asked (name ∷ []) = ap (λ (x : Outside). x.asked) is ∙ at.3 in
-      (record {
-        name = name;
-        output = at.0;
-        first = at.1;
-        failed = record { rose = subst (Rose before.takes) (sym (ap (λ (x : Outside). x.takes) is)) at.2; last = last_asked before.asked after.asked [] name asked };
-      }, asked ∙ ap (λ f. gained before.asked (read f)) (sym at.1))
+      let asked : after.asked ≡ gained before.asked (name ∷ []) = ap (λ (x : Outside). x.asked) is ∙ at.3 in (
+        record {
+          name = name;
+          output = at.0;
+          first = at.1;
+          failed = record { rose = subst (Rose before.takes) (sym (ap (λ (x : Outside). x.takes) is)) at.2; last = last_asked before.asked after.asked [] name asked };
+        },
+        asked ∙ ap (λ f. gained before.asked (read f)) (sym at.1),
+      )
   refused_cause (TooLong name) mid other at is = ap (λ (x : Outside). x.asked) is ∙ at
   refused_cause (Fault line kind) mid other at is = ((λ e. cc), ap (λ (x : Outside). x.asked) is ∙ at)
   refused_cause NoMemory mid other at is = absurd (other refl)

@@ -1,5 +1,5 @@
 -- What `make` promises of its words, of what is known of files and outputs before it and after it, and of its answer.
-use Rattle.std.specs.Prelude.{◌≡◌, ◌≢◌, ◌⊎◌, ℕ, List, [], codes, Option, Some, None, Result, Ok}
+use Rattle.std.specs.Prelude.{◌≡◌, ◌≢◌, ◌⊎◌, ℕ, List, codes, Option, Some, None, Result, Ok}
 use Rattle.std.specs.Option.{ForSome}
 use Rattle.oc_base.specs.Outside.{Disk, Rose, RoseAtMost, gained, GainedPart, Gains, HasNow, SameElsewhere, TakeFailed}
 use Rattle.top_call.specs.Call.{Settled, Delivered}

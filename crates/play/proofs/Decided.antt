@@ -1,12 +1,11 @@
 -- How a decision follows from its steps.
-use Rattle.std.proofs.Common.{◌≡◌, ◌⊎◌, inl, inr, ℕ, Bool, List, Option, Some, None, Result, Ok, Err, ap, sym, subst, refl, ◌∙◌}
+use Rattle.std.proofs.Common.{◌≡◌, ◌⊎◌, inl, inr, ℕ, Bool, List, Option, Some, None, Result, Ok, Err, ap, sym, subst, refl}
 use Rattle.top_call.specs.Call.{Decided, UnlessFull}
 use Rattle.top_call.specs.Outside.{Outside}
 use Rattle.top_call.specs.Reading.{FileRead, InputRead}
 use Rattle.top_call.specs.declared.reading.Unread.{Unread}
 use Rattle.top_call.proofs.Called.{full_before}
 use Rattle.image.specs.Picture.{Picture}
-use Rattle.machine.specs.declared.outcome.Outcome.{Outcome}
 use Rattle.play_words.specs.declared.words.Words.{Words}
 use Rattle.report.specs.Cause.{refusal_of}
 use Rattle.report.specs.declared.answer.Ended.{Ended}
@@ -87,8 +86,12 @@ run_program given image r built (inr is) = inr is
 -- a run whose script has no fault
 pub is_run : (image : Picture) (text input : List ℕ) (shown : Bool) (events : List Event) (world : Replaced) (d : Delivery) → fault_of image text ≡ None → events ≡ events_of image text → AreInRange image events
     → Played events (started image input) world → d ≡ delivery_of shown world → UnlessFull NoMemory (RunsTo image text input shown) (Ok d)
-is_run image text input shown events world d none is range played made = inl (world, record {
-  fine = none;
-  range = subst (AreInRange image) is range;
-  played = subst (λ es. Played es (started image input) world) is played;
-}, made)
+is_run image text input shown events world d none is range played made = inl (
+  world,
+  record {
+    fine = none;
+    range = subst (AreInRange image) is range;
+    played = subst (λ es. Played es (started image input) world) is played;
+  },
+  made,
+)

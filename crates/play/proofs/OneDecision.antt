@@ -1,10 +1,10 @@
 -- Words, files and input ask for one thing.
-use Rattle.std.proofs.Common.{◌≡◌, ℕ, Bool, List, [], ◌∷◌, Option, Some, None, Result, Ok, Err, ap, sym, subst, ◌∙◌}
+use Rattle.std.proofs.Common.{◌≡◌, ℕ, List, [], ◌∷◌, Option, Some, None, Result, Ok, Err, ap, sym, subst, ◌∙◌}
 use Rattle.oc_base.specs.Outside.{Disk}
 use Rattle.oc_base.specs.declared.range.Range.{Range}
 use Rattle.top_call.specs.Call.{DecidesBy}
 use Rattle.top_call.specs.Reading.{given_by}
-use Rattle.image.specs.Picture.{Picture, IsKept}
+use Rattle.image.specs.Picture.{Picture}
 use Rattle.elf_read.specs.Parts.{parts_of}
 use Rattle.relocs.proofs.OneImage.{one_image}
 use Rattle.sched_log.specs.Script.{events_of, fault_of}

@@ -1,5 +1,5 @@
 -- What is asked for is what the original machine delivers.
-use Rattle.std.proofs.Common.{◌≡◌, ℕ, Bool, List, [], ◌++◌, Option, Some, None, Result, Ok, Err, refl, sym, ap, subst, ◌∙◌}
+use Rattle.std.proofs.Common.{◌≡◌, ℕ, Bool, List, Result, Ok, Err, refl, sym, ap, ◌∙◌}
 use Rattle.oc_base.specs.Outside.{Disk}
 use Rattle.top_call.specs.Call.{DecidesBy}
 use Rattle.top_call.specs.Reading.{given_by}
@@ -7,14 +7,11 @@ use Rattle.image.specs.Picture.{Picture}
 use Rattle.machine.specs.States.{State}
 use Rattle.machine.specs.Start.{start_of}
 use Rattle.machine.specs.Steps.{original_run}
-use Rattle.sched_log.specs.Script.{events_of, fault_of}
-use Rattle.sched_log.specs.declared.fault.ScriptFault.{ScriptFault}
+use Rattle.sched_log.specs.Script.{events_of}
 use Rattle.report.specs.declared.answer.Ended.{Ended}
 use Rattle.report.specs.declared.answer.Ended.TheVariants.{Program, Script}
-use Rattle.report.specs.declared.answer.ProgramFault.{ProgramFault}
 use Rattle.report.specs.declared.writing.Delivery.{Delivery}
 use Rattle.world.specs.Worlds.{Replaced, Related, started}
-use Rattle.play.specs.Events.{Plays}
 use Rattle.play.specs.Schedule.{final_state, schedule}
 use Rattle.report.specs.Cause.{refusal_of}
 use Rattle.play.specs.Decision.{Given, reading_of, IsBuilt, IsPlayed, Delivers, bad_program, bad_script, ran, play, Decides, closed, outcome_of, delivery_of}

@@ -1,5 +1,5 @@
 -- What `play` promises of its words, of what is known of files, input and outputs before it and after it, and of its answer.
-use Rattle.std.specs.Prelude.{◌≡◌, ◌⊎◌, ℕ, List, [], Option, None, Result, Ok}
+use Rattle.std.specs.Prelude.{◌≡◌, ◌⊎◌, ℕ, List, [], None, Result, Ok}
 use Rattle.std.specs.Option.{ForSome}
 use Rattle.oc_base.specs.Outside.{Disk, Rose, RoseAtMost, gained, GainedPart, LostPart, TakeFailed}
 use Rattle.top_call.specs.Call.{Settled, Delivered}

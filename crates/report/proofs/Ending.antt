@@ -1,19 +1,16 @@
 -- How a decision ends, step by step.
-use Rattle.std.proofs.Common.{◌≡◌, ◌≢◌, inl, inr, ℕ, List, [], ◌∷◌, Result, Ok, Err, refl, subst, ap, ◌∙◌}
+use Rattle.std.proofs.Common.{◌≡◌, ◌≢◌, inl, inr, [], Result, Ok, Err, refl, subst}
 use Rattle.oc_base.specs.declared.fault.Failed.{Failed}
 use Rattle.top_call.specs.Call.{Written}
 use Rattle.top_call.specs.Outside.{Outside}
-use Rattle.top_call.specs.Writing.{Write, to_err, Wrote}
+use Rattle.top_call.specs.Writing.{to_err, Wrote}
 use Rattle.report.specs.declared.answer.Answer.{Answer}
 use Rattle.report.specs.declared.answer.Ended.{Ended}
 use Rattle.report.specs.declared.answer.Ended.TheVariants.{Ran, Usage, ReadFault, TooLong, Program, Script, WriteFault, NoMemory}
 use Rattle.report.specs.declared.writing.Delivery.{Delivery}
 use Rattle.report.specs.declared.writing.Writing.{Writing}
-use Rattle.report.specs.declared.writing.Writing.TheVariants.{Run, Refusal}
 use Rattle.report.specs.Answer.{line_of}
 use Rattle.report.specs.Cause.{answer_by, run_ending, writing_of, Answers}
-
-
 
 -- and that of a call that ran out of memory
 pub gave_up : (a b : Outside) (result : Result Unit Failed) (answer : Answer) → Wrote (to_err (line_of NoMemory)) a b result → answer ≡ answer_by NoMemory [] → Written run_ending (Err NoMemory) a b answer

@@ -37,7 +37,10 @@ pub enum Writing {
         report: Items<u8>,
     },
     /// The line of a refusal.
-    Refusal { ended: Ended, line: Items<u8> },
+    Refusal {
+        ended: Ended,
+        line: Items<u8>,
+    },
 }
 
 // The second output, the report where it is to be shown, and the last line.
@@ -102,7 +105,12 @@ fn refused(alloc: Global, ended: Ended) -> Answer
 }
 
 // Writes the outputs of a run.
-fn write_run<O: Sink, E: Sink>(out: &mut O, err: &mut E, first: &[u8], second: &[u8]) -> Result<(), Failed>
+fn write_run<O: Sink, E: Sink>(
+    out: &mut O,
+    err: &mut E,
+    first: &[u8],
+    second: &[u8],
+) -> Result<(), Failed>
     ensures { (rest : Outside) → WroteAll (to_out first.now ∷ to_err second.now ∷ [])
         (with_out O.Sink out.old (with_err E.Sink err.old rest)) (with_out O.Sink out.new (with_err E.Sink err.new rest)) result }
 {
@@ -123,22 +131,26 @@ fn refuse<E: Sink>(alloc: Global, ended: Ended, line: &[u8], err: &mut E) -> Ans
 }
 
 // Writes until a device fails.
-fn deliver<O: Sink, E: Sink>(
-    alloc: Global,
-    writing: Writing,
-    out: &mut O,
-    err: &mut E,
-) -> Answer
+fn deliver<O: Sink, E: Sink>(alloc: Global, writing: Writing, out: &mut O, err: &mut E) -> Answer
     ensures { (rest : Outside) → Answers writing
         (with_out O.Sink out.old (with_err E.Sink err.old rest)) (with_out O.Sink out.new (with_err E.Sink err.new rest)) result }
 {
     match writing {
-        Writing::Run { outcome, out: first, err: second, report } => {
+        Writing::Run {
+            outcome,
+            out: first,
+            err: second,
+            report,
+        } => {
             let Ok(()) = write_run(out, err, first.as_slice(), second.as_slice()) else {
                 return refused(alloc, Ended::WriteFault);
             };
             let ended = Ended::Ran(outcome);
-            Answer { status: status(&ended), ended, report }
+            Answer {
+                status: status(&ended),
+                ended,
+                report,
+            }
         }
         Writing::Refusal { ended, line } => refuse(alloc, ended, line.as_slice(), err),
     }

@@ -1,14 +1,13 @@
 -- What follows from the form of a top call.
 use Rattle.std.proofs.Common.{◌≡◌, ◌≢◌, ◌⊎◌, inl, inr, ℕ, suc, List, [], ◌∷◌, ◌++◌, take, drop, append-nil, append_assoc, Option, Some, None, Result, Ok, Err, refl, ap, sym, subst, ◌∙◌}
-use Rattle.std.specs.Prelude.{IsErrOf}
 use Rattle.std.specs.Option.{ForSome}
 use Rattle.oc_base.specs.Outside.{Disk, Rose, RoseAtMost, Asks, gained, dropped, GainedPart, LostPart}
 use Rattle.oc_base.proofs.Told.{gained-gained, lost_more}
 use Rattle.oc_base.specs.declared.fault.Failed.{Failed as DeviceFailed}
 use Rattle.top_call.specs.declared.reading.Unread.{Unread}
 use Rattle.top_call.specs.declared.reading.Unread.TheVariants.{Failed, TooLong, NoMemory}
-use Rattle.top_call.specs.Outside.{Outside, Told, OnlyRead}
-use Rattle.top_call.specs.Reading.{Reading, all_read, a_file, the_input, within, input_within, given_then, given_by, FileCause, FileRead, InputCause, InputRead}
+use Rattle.top_call.specs.Outside.{Outside, OnlyRead}
+use Rattle.top_call.specs.Reading.{Reading, all_read, a_file, the_input, given_then, given_by, FileCause, FileRead, InputCause, InputRead}
 use Rattle.top_call.specs.Writing.{Write, to_out, to_err, to_file, Whole, Broken, AllWritten, WriteFailed, Wrote, WroteAll}
 use Rattle.top_call.specs.Call.{TopCall, DecidesBy, Decides, Decided, Written, EndsWith, Delivered, AllDone, Excused, Settled, unread, unwritten, out_of_memory}
 
@@ -43,6 +42,7 @@ file_full name limit a b why read = record { cause = cause why read.cause; asked
     cause (Failed given) is = inr is.1
     cause (TooLong given) is = inl is.2
     cause NoMemory is = is
+
     asked : Asks {T = List ℕ} NoMemory a.asked b.asked name (Err why) → Asks {T = List ℕ} NoMemory a.asked b.asked name (Err NoMemory)
     asked (inl is) = inl is
     asked (inr is) = inr (is.0, refl)
@@ -318,7 +318,6 @@ module _ {G D E A : Type 0} (call : TopCall G D E A) where
   decided_only (a_file name limit next) a b d (inr (bytes, then, read, more)) = only_trans a then b (file_only name limit a then (Ok bytes) read) (decided_only (next bytes) then b d more)
   decided_only (the_input next) a b d (inl (why, read, is)) = input_only a b (Err why) read
   decided_only (the_input next) a b d (inr (bytes, then, read, more)) = only_trans a then b (input_only a then (Ok bytes) read) (decided_only (next bytes) then b d more)
-
 
   pub has_read : (r : Reading G E) (a b : Outside) (d : Result D E) → Decided call r a b d → HasRead a b
   has_read (all_read g) a b d is = has_read_same a b is.0

@@ -1,5 +1,5 @@
 -- The form of a top call: it reads, decides, and writes and answers what it has decided.
-use Rattle.std.specs.Prelude.{◌≡◌, ◌⊎◌, ℕ, List, [], ◌∷◌, Result, Ok, Err}
+use Rattle.std.specs.Prelude.{◌≡◌, ◌⊎◌, ℕ, List, Result, Ok, Err}
 use Rattle.oc_base.specs.Outside.{Disk, Rose}
 use Rattle.top_call.specs.declared.reading.Unread.{Unread}
 use Rattle.top_call.specs.declared.reading.Unread.TheVariants.{Failed, NoMemory}

@@ -1,6 +1,6 @@
 -- What a call writes, in order, up to the first fault.
 use Rattle.std.specs.Prelude.{◌≡◌, ◌⊎◌, ℕ, List, [], ◌∷◌, Result, Ok, Err}
-use Rattle.oc_base.specs.Outside.{Rose, gained, GainedPart, HasNow, SameElsewhere, AsksOrFails}
+use Rattle.oc_base.specs.Outside.{Rose, gained, GainedPart, HasNow, SameElsewhere}
 use Rattle.oc_base.specs.declared.fault.Failed.{Failed}
 use Rattle.top_call.specs.Outside.{Outside}
 

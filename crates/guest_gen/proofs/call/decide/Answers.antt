@@ -1,5 +1,5 @@
 use Rattle.std.proofs.Common.{Some, ap, ◌∙◌}
-use Rattle.guest_gen.proofs.Decided.{words_refused, text_refused, text_decided, guest_decided}
+use Rattle.guest_gen.proofs.Decided.{text_refused, text_decided}
 use Rattle.guest_gen.proofs.call.decide.Goals as goal
 
 pub returns-in-Err-fetch : goal.returns-in-Err-fetch

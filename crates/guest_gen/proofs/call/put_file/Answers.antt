@@ -1,4 +1,4 @@
-use Rattle.std.proofs.Common.{inl, ap, ◌∙◌}
+use Rattle.std.proofs.Common.{inl}
 use Rattle.top_call.specs.Outside.{with_files, with_out}
 use Rattle.guest_gen.proofs.Promised.{file_then_line, file_alone}
 use Rattle.guest_gen.proofs.call.put_file.Goals as goal
