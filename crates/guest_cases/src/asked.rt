@@ -3,8 +3,7 @@
 ghost use Rattle.std.specs.Prelude.{◌≢◌, ℕ, List, map, string_bytes};
 ghost use Rattle.oc_base.specs.Table.{newest_in};
 ghost use Rattle.report.specs.declared.answer.Ended.{Ended};
-ghost use Rattle.play.specs.Causes.{AsksFor};
-ghost use Rattle.guest_cases.specs.Sure.{filled};
+ghost use Rattle.guest_cases.specs.Sure.{filled, EndsAsAsked};
 
 use crate::sure::SureFiles;
 use oc_base::memory::{MemSource, NullSink};
@@ -22,7 +21,7 @@ pub fn play_surely(
     input: Vec<u8>,
 ) -> Answer
     ensures asked { result.ended ≢ Ended.NoMemory
-        → AsksFor (map string_bytes words.now) (filled (newest_in files.items)) input.items result.ended }
+        → EndsAsAsked (map string_bytes words.now) (filled (newest_in files.items)) input.items result }
     ensures read { (name : List ℕ) → result.ended ≢ Ended.ReadFault name }
     ensures written { result.ended ≢ Ended.WriteFault }
 {

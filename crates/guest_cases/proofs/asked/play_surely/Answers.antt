@@ -1,9 +1,14 @@
-use Rattle.std.proofs.Common.{sym}
+use Rattle.guest_cases.proofs.Asked.{never_unread, never_unwritten, ends_as_asked}
 use Rattle.guest_cases.proofs.Unlisted.{never_fails}
 use Rattle.guest_cases.proofs.asked.play_surely.Goals as goal
 
+pub returns-clause-read : goal.returns-clause-read
+returns-clause-read c = never_unread _ _ _ _ (λ rose. rose) (never_fails _ _ _ c.new-input.ensures.faults c.new.ensures.items) c.play.ensures.causes
+
+pub returns-clause-written : goal.returns-clause-written
+returns-clause-written c = never_unwritten _ _ _ _ (λ rose. rose) (λ rose. rose) c.play.ensures.causes
+
 pub returns-clause-asked : goal.returns-clause-asked
-returns-clause-asked c = λ memory.
-    let done = c.play.ensures.complete _ c.new-files.ensures.disk _ c.new-input.ensures.left (λ rose. rose)
-    (never_fails _ _ _ c.new-input.ensures.faults c.new.ensures.items) (λ rose. rose) (λ rose. rose) memory in
-    record { decision = done.decision; decided = done.decided; ended = sym done.written.ended }
+returns-clause-asked c = ends_as_asked _ _ _ _ _ _ c.play.ensures.settled c.new-files.ensures.disk c.new-input.ensures.left
+    (never_unread _ _ _ _ (λ rose. rose) (never_fails _ _ _ c.new-input.ensures.faults c.new.ensures.items) c.play.ensures.causes)
+    (never_unwritten _ _ _ _ (λ rose. rose) (λ rose. rose) c.play.ensures.causes)
