@@ -1,3 +1,3 @@
-pub mod Asked
+pub mod Ending
 pub mod Filled
 pub mod Unlisted

@@ -1,4 +1,4 @@
-use Rattle.guest_cases.proofs.Asked.{never_unread, never_unwritten, ends_as_asked}
+use Rattle.guest_cases.proofs.Ending.{never_unread, never_unwritten, ends_as_asked}
 use Rattle.guest_cases.proofs.Unlisted.{never_fails}
 use Rattle.guest_cases.proofs.asked.play_surely.Goals as goal
 
