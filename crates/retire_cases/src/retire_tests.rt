@@ -2,7 +2,7 @@
 //! layouts that are wanted. A layout is a plan and a base, and a call is the address of its word. Addresses are hexadecimal. What is
 //! wanted was worked out by hand from the layouts' addresses.
 
-ghost use Rattle.std.specs.Prelude.{AllPairs, OnOk, IfOk, IsTrue};
+ghost use Rattle.std.specs.Prelude.{◌↔◌, All, AllPairs, OnOk, IfOk, IsTrue};
 ghost use Rattle.retire.specs.References.{LieApart};
 
 use cases::images::image_of;
@@ -42,7 +42,7 @@ fn send_all(layout: &mut Layout, calls: &str) -> Result<(), Fail> {
 }
 
 fn lie_apart(l: &Layout, m: &Layout) -> bool
-    ensures { IsTrue result → LieApart l.now m.now }
+    ensures { IsTrue result ↔ LieApart l.now m.now }
 {
     l.kept();
     m.kept();
@@ -53,30 +53,51 @@ fn lie_apart(l: &Layout, m: &Layout) -> bool
     l_end <= m.base() || m_end <= l.base()
 }
 
+fn lies_apart(lives: &[Layout], layout: &Layout) -> bool
+    ensures { IsTrue result ↔ All (λ l. LieApart l layout.now) lives.now }
+{
+    lives.iter().all(|l| lie_apart(l, layout))
+}
+
 fn push_apart(lives: &mut Vec<Layout>, layout: Layout) -> Result<(), Fail>
     requires { AllPairs LieApart lives.old.items }
     ensures { OnOk result (AllPairs LieApart lives.new.items) }
 {
-    if !lives.iter().all(|l| lie_apart(l, &layout)) {
+    if !lies_apart(lives, &layout) {
         return Err(Fail::new("layouts that meet"));
     }
     lives.push(layout)?;
     Ok(())
 }
 
-/// Layouts such as `0:0 at 12000, 1:0 at 12100`, with some of their calls sent elsewhere.
+/// Adds a layout such as `0:0 at 12000`, with some of its calls sent elsewhere; `none` is none.
+fn push_layout(
+    lives: &mut Vec<Layout>,
+    alloc: Global,
+    image: &Image,
+    text: &str,
+    calls: &str,
+) -> Result<(), Fail>
+    requires { AllPairs LieApart lives.old.items }
+    ensures { OnOk result (AllPairs LieApart lives.new.items) }
+{
+    if text == "none" {
+        return Ok(());
+    }
+    let Ok(mut layout) = layout_of(alloc, image, text)? else {
+        return Err(Fail::new("no layout"));
+    };
+    send_all(&mut layout, calls)?;
+    push_apart(lives, layout)
+}
+
+/// Layouts such as `0:0 at 12000, 1:0 at 12100`.
 fn layouts_of(alloc: Global, image: &Image, texts: &str, calls: &str) -> Result<Vec<Layout>, Fail>
     ensures { IfOk result (λ v. AllPairs LieApart v.items) }
 {
     let mut lives = Vec::new(alloc);
     for text in texts.split(", ") {
-        if text != "none" {
-            let Ok(mut layout) = layout_of(alloc, image, text)? else {
-                return Err(Fail::new("no layout"));
-            };
-            send_all(&mut layout, calls)?;
-            push_apart(&mut lives, layout)?;
-        }
+        push_layout(&mut lives, alloc, image, text, calls)?;
     }
     Ok(lives)
 }
