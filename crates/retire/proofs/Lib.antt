@@ -1,0 +1,4 @@
+pub mod Closing
+pub mod LeastSet
+pub mod Marking
+pub mod Places
