@@ -3,12 +3,12 @@ use Rattle.guest_cases.proofs.Unlisted.{never_fails}
 use Rattle.guest_cases.proofs.asked.play_surely.Goals as goal
 
 pub returns-clause-read : goal.returns-clause-read
-returns-clause-read c = never_unread _ _ _ _ (λ rose. rose) (never_fails _ _ _ c.new-input.ensures.faults c.new.ensures.items) c.play.ensures.causes
+returns-clause-read c = never_unread c.play.ensures (λ rose. rose) (never_fails _ _ _ c.new-input.ensures.faults c.new.ensures.items)
 
 pub returns-clause-written : goal.returns-clause-written
-returns-clause-written c = never_unwritten _ _ _ _ (λ rose. rose) (λ rose. rose) c.play.ensures.causes
+returns-clause-written c = never_unwritten c.play.ensures (λ rose. rose) (λ rose. rose)
 
 pub returns-clause-asked : goal.returns-clause-asked
-returns-clause-asked c = ends_as_asked _ _ _ _ _ _ c.play.ensures.settled c.new-files.ensures.disk c.new-input.ensures.left
-    (never_unread _ _ _ _ (λ rose. rose) (never_fails _ _ _ c.new-input.ensures.faults c.new.ensures.items) c.play.ensures.causes)
-    (never_unwritten _ _ _ _ (λ rose. rose) (λ rose. rose) c.play.ensures.causes)
+returns-clause-asked c = ends_as_asked c.play.ensures _ _ c.new-files.ensures.disk c.new-input.ensures.left
+    (never_unread c.play.ensures (λ rose. rose) (never_fails _ _ _ c.new-input.ensures.faults c.new.ensures.items))
+    (never_unwritten c.play.ensures (λ rose. rose) (λ rose. rose))
