@@ -26,3 +26,11 @@ pub fn layout_of(
     }
     Ok(emit(alloc, image, &plan, base))
 }
+
+/// The layout of a plan at a base, if there is one.
+pub fn made_layout(alloc: Global, image: &Image, text: &str) -> Result<Layout, Fail> {
+    match layout_of(alloc, image, text)? {
+        Ok(layout) => Ok(layout),
+        Err(_) => Err(Fail::new("no layout")),
+    }
+}

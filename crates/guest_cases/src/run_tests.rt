@@ -1,5 +1,7 @@
 //! Guests assembled by `guest_gen` and run by `play` over files in memory. In a row a newline is written `/`.
 
+ghost use Rattle.std.specs.Prelude.{None};
+
 use cases::guests::{guest, with_newlines};
 use cases::images::put_all;
 use cases::rows::split;
@@ -278,13 +280,13 @@ struct LongFiles {
 }
 
 impl Files for LongFiles {
-    ghost disk = { λ s. None };
+    ghost disk = { λ _. None };
 
-    ghost asked = { λ s. None };
+    ghost asked = { λ _. None };
 
-    ghost take_faults = { λ s. 0 };
+    ghost take_faults = { λ _. None };
 
-    ghost put_faults = { λ s. 0 };
+    ghost put_faults = { λ _. None };
 
     fn take(&mut self, alloc: Global, name: &str, limit: usize) -> Result<Vec<u8>, TakeFault> {
         let length = if name == "script" {

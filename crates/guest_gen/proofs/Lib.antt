@@ -1,4 +1,4 @@
 pub mod Decided
-pub mod Ended
+pub mod Promised
 pub mod Kept
 pub mod OneDecision

@@ -1,17 +1,16 @@
 -- Words and files ask for one thing.
-use Rattle.std.proofs.Common.{◌≡◌, ℕ, List, Option, Result, Ok, Err, ap, sym, ◌∙◌}
+use Rattle.std.proofs.Common.{◌≡◌, ℕ, List, [], Option, Result, Ok, Err, ap, sym, ◌∙◌}
 use Rattle.oc_base.specs.Outside.{Disk}
+use Rattle.top_call.specs.Call.{DecidesBy}
+use Rattle.top_call.specs.Reading.{given_by}
 use Rattle.elf_make.specs.File.{elf_of}
 use Rattle.rv_asm.specs.declared.program.Program.{Program}
 use Rattle.rv_asm.proofs.OneProgram.{one_program, same_program, words_once}
 use Rattle.guest_gen.specs.declared.decision.NewFile.{NewFile}
 use Rattle.guest_gen.specs.declared.decision.Refusal.{Refusal}
 use Rattle.guest_gen.specs.declared.decision.Refusal.TheVariants.{Fault}
-use Rattle.guest_gen.specs.declared.words.Form.{Form}
-use Rattle.guest_gen.specs.declared.words.Form.TheVariants.{Assemble, Generate}
 use Rattle.guest_gen.specs.Generated.{text, IsGenerated}
-use Rattle.guest_gen.specs.Words.{form_of}
-use Rattle.guest_gen.specs.Decision.{text_limit, within, IsFileOf, IsGuestFile, Assembles, Generates, DecidesRead, DecidesIn, Decides}
+use Rattle.guest_gen.specs.Decision.{Wanted, a_text, a_guest, IsFileOf, IsGuestFile, Assembles, Generates, Delivers, refusal_of, make, reading_of, Decides}
 
 one_guest : (n : ℕ) (p q : Program) → IsGenerated n p → IsGenerated n q → p ≡ q
 one_guest n p q a b =
@@ -48,14 +47,13 @@ one_assembled text name (Err (Fault line kind)) (Err (Fault line' kind')) a b = 
 one_assembled text name (Err (Fault line kind)) (Err _) a b = absurd b
 one_assembled text name (Err _) e a b = absurd a
 
-from_read : (t : Result (List ℕ) Refusal) (name : List ℕ) (d e : Result NewFile Refusal) → DecidesRead t name d → DecidesRead t name e → d ≡ e
-from_read (Ok text) name d e a b = one_assembled text name d e a b
-from_read (Err r) name d e a b = a ∙ sym b
+one_wanted : (wanted : Wanted) (d e : Result NewFile Refusal) → Delivers wanted d → Delivers wanted e → d ≡ e
+one_wanted (a_text text output) d e a b = one_assembled text output d e a b
+one_wanted (a_guest n output) d e a b = one_generated n output d e a b
 
-from_form : (disk : Disk) (f : Result Form Refusal) (d e : Result NewFile Refusal) → DecidesIn disk f d → DecidesIn disk f e → d ≡ e
-from_form disk (Ok (Assemble i o)) d e a b = from_read (within i text_limit (disk i)) o d e a b
-from_form disk (Ok (Generate n o)) d e a b = one_generated n o d e a b
-from_form disk (Err r) d e a b = a ∙ sym b
+one_given : (given : Result Wanted Refusal) (d e : Result NewFile Refusal) → DecidesBy make given d → DecidesBy make given e → d ≡ e
+one_given (Ok wanted) d e a b = one_wanted wanted d e a b
+one_given (Err refusal) d e a b = a ∙ sym b
 
 pub one_decision : (words : List (List ℕ)) (disk : Disk) (d e : Result NewFile Refusal) → Decides words disk d → Decides words disk e → d ≡ e
-one_decision words disk d e a b = from_form disk (form_of words) d e a b
+one_decision words disk d e a b = one_given (given_by refusal_of (reading_of words) disk []) d e a b

@@ -1,8 +1,8 @@
 -- What the words of a call say: assemble a text, or generate a guest.
-use Rattle.std.specs.Prelude.{ℕ, ◌≤◌, ℤ, pos, unsigned_abs, int_le, ◌&&◌, nat_lt, List, [], ◌∷◌, codes, bytes_eq, length, Option, Some, None, Result, Ok, Err, if◌then◌else◌}
+use Rattle.std.specs.Prelude.{◌≡◌, ℕ, ◌≤◌, ℤ, pos, unsigned_abs, int_le, ◌&&◌, nat_lt, List, [], ◌∷◌, codes, bytes_eq, length, Option, Some, None, if◌then◌else◌}
 use Rattle.asm_text.specs.Numbers.{number_of}
 use Rattle.guest_gen.specs.declared.decision.Refusal.{Refusal}
-use Rattle.guest_gen.specs.declared.decision.Refusal.TheVariants.{Usage}
+use Rattle.guest_gen.specs.declared.decision.Refusal.TheVariants.{Usage, NoMemory}
 use Rattle.guest_gen.specs.declared.words.Form.{Form}
 use Rattle.guest_gen.specs.declared.words.Form.TheVariants.{Assemble, Generate}
 
@@ -15,15 +15,21 @@ in_thousand (Some z) = if int_le (pos 1) z && int_le z (pos 1000) then Some (uns
 unfoldable pub count_in : List ℕ → Option ℕ
 count_in word = if nat_lt 10 (length word) then None else in_thousand (number_of word)
 
-abbrev pub generated : List ℕ → Option ℕ → List ℕ → Result Form Refusal
-generated option None output = Err Usage
-generated option (Some n) output = if bytes_eq option (codes "--generate") then Ok (Generate n output) else Err Usage
+abbrev pub generated : List ℕ → Option ℕ → List ℕ → Option Form
+generated option None output = None
+generated option (Some n) output = if bytes_eq option (codes "--generate") then Some (Generate n output) else None
 
 -- IN OUT, or --generate N OUT
-abbrev pub form_of : List (List ℕ) → Result Form Refusal
-form_of (input ∷ output ∷ []) = Ok (Assemble input output)
+abbrev pub form_of : List (List ℕ) → Option Form
+form_of (input ∷ output ∷ []) = Some (Assemble input output)
 form_of (option ∷ count ∷ output ∷ []) = generated option (count_in count) output
-form_of words = Err Usage
+form_of words = None
+
+-- words without a form are refused so, but out of memory
+abbrev pub SaysNothing : Option Form → Refusal → Type 0
+SaysNothing form Usage = form ≡ None
+SaysNothing form NoMemory = Unit {0}
+SaysNothing form _ = ⊥
 
 -- the number of a guest is in its range
 abbrev pub IsCounted : Form → Type 0

@@ -9,6 +9,7 @@ use oc_base::items::Items;
 use oc_base::text::Text;
 use rv_asm::fault::AsmFault;
 use std::alloc::{AllocError, Global};
+use top_call::reading::Unread;
 
 /// A file to be written, and the line that `out` is told of it, if any.
 #[derive(Debug, Drop)]
@@ -31,6 +32,20 @@ pub enum Refusal {
     Fault { line: u64, kind: u8 },
     /// There was no room in memory.
     NoMemory,
+}
+
+impl From<Unread> for Refusal {
+    ghost use Rattle.guest_gen.specs.Decision.{refusal_of};
+
+    ghost from_gives = { λ why refusal. refusal ≡ refusal_of why };
+
+    fn from(why: Unread) -> Refusal {
+        match why {
+            Unread::Failed(name) => Refusal::ReadFault(name),
+            Unread::TooLong(name) => Refusal::TooLong(name),
+            Unread::NoMemory => Refusal::NoMemory,
+        }
+    }
 }
 
 fn fault_line(alloc: Global, line: u64, kind: u8) -> Result<String, AllocError>

@@ -1,8 +1,7 @@
 //! The words of a call.
 
-ghost use Rattle.std.specs.Prelude.{◌≡◌, ◌≤◌, Ok, Err, map, IfSome, IfOk, IfErr, string_bytes};
-ghost use Rattle.guest_gen.specs.Cause.{Reason};
-ghost use Rattle.guest_gen.specs.Words.{count_in, generated, form_of, IsCounted};
+ghost use Rattle.std.specs.Prelude.{◌≡◌, ◌≤◌, Some, None, map, IfSome, IfOk, IfErr, string_bytes};
+ghost use Rattle.guest_gen.specs.Words.{count_in, generated, form_of, IsCounted, SaysNothing};
 ghost use Rattle.guest_gen.specs.declared.decision.Refusal.{Refusal};
 ghost use Rattle.guest_gen.specs.declared.words.Form.{Form};
 
@@ -52,9 +51,9 @@ fn assembling(alloc: Global, input: &str, output: &str) -> Result<Form, Refusal>
 }
 
 fn generating(alloc: Global, option: &str, count: &str, output: &str) -> Result<Form, Refusal>
-    ensures ok { IfOk result (λ form. generated option.now (count_in count.now) output.now ≡ Ok form) }
+    ensures ok { IfOk result (λ form. generated option.now (count_in count.now) output.now ≡ Some form) }
     ensures counted { IfOk result IsCounted }
-    ensures err { IfErr result (Reason (generated option.now (count_in count.now) output.now ≡ Err Refusal.Usage) (λ _. ⊥) (λ _. ⊥)) }
+    ensures err { IfErr result (SaysNothing (generated option.now (count_in count.now) output.now)) }
 {
     let Some(count) = count_in(count.as_bytes()) else {
         return Err(Refusal::Usage);
@@ -70,9 +69,9 @@ fn generating(alloc: Global, option: &str, count: &str, output: &str) -> Result<
 
 /// What the words ask for: a text's name and an output's, or `--generate`, a number and an output's name.
 pub fn read_words(alloc: Global, words: &[String]) -> Result<Form, Refusal>
-    ensures ok { IfOk result (λ form. form_of (map string_bytes words.now) ≡ Ok form) }
+    ensures ok { IfOk result (λ form. form_of (map string_bytes words.now) ≡ Some form) }
     ensures counted { IfOk result IsCounted }
-    ensures err { IfErr result (Reason (form_of (map string_bytes words.now) ≡ Err Refusal.Usage) (λ _. ⊥) (λ _. ⊥)) }
+    ensures err { IfErr result (SaysNothing (form_of (map string_bytes words.now))) }
 {
     if let [input, output] = words {
         return assembling(alloc, input.as_str(), output.as_str());

@@ -4,63 +4,48 @@
 use blocks::fault::Unreadable;
 use blocks::index::FuncIndex;
 use blocks::recover::recover;
-use blocks::run::Block;
-use cases::images::image_of;
+use blocks::run::{Block, Run};
 use cases::orders::number;
-use cases::rows::split;
+use cases::rows::{check, separate};
 use image::picture::Image;
 use std::alloc::{AllocError, Global};
 use std::test::Fail;
 
-fn push_block(text: &mut String, alloc: Global, block: &Block) -> Result<(), AllocError> {
-    let from = block.range.from;
-    let to = block.range.to;
-    let piece = format!(in alloc; " {from:x}..{to:x}")?;
-    text.push_str(&piece)?;
-    if block.falls {
-        text.push_str(">")?;
+fn push_block(text: &mut String, block: &Block) -> Result<(), AllocError> {
+    let (from, to) = (block.range.from, block.range.to);
+    let mark = if block.falls { ">" } else { "" };
+    separate(text, " ")?;
+    write!(text, "{from:x}..{to:x}{mark}")
+}
+
+fn list_text(alloc: Global, blocks: &[Block]) -> Result<String, AllocError> {
+    let mut text = String::new(alloc);
+    for block in blocks {
+        push_block(&mut text, block)?;
     }
-    Ok(())
+    Ok(text)
 }
 
 fn fault_text(alloc: Global, fault: Unreadable) -> Result<String, AllocError> {
     match fault {
-        Unreadable::Undecodable(a) => format!(in alloc; " undecodable {a:x}"),
-        Unreadable::BranchOut(a) => format!(in alloc; " branch out {a:x}"),
-        Unreadable::Misaimed(a) => format!(in alloc; " misaimed {a:x}"),
-        Unreadable::Overlap(g) => format!(in alloc; " overlap {g}"),
-        Unreadable::NoMemory => String::from_str(alloc, " out of memory"),
+        Unreadable::Undecodable(a) => format!(in alloc; "undecodable {a:x}"),
+        Unreadable::BranchOut(a) => format!(in alloc; "branch out {a:x}"),
+        Unreadable::Misaimed(a) => format!(in alloc; "misaimed {a:x}"),
+        Unreadable::Overlap(g) => format!(in alloc; "overlap {g}"),
+        Unreadable::NoMemory => String::from_str(alloc, "out of memory"),
     }
 }
 
-/// The blocks of a function as text.
-fn blocks_text(alloc: Global, image: &Image, f: u32) -> Result<String, AllocError> {
+/// The blocks of a function.
+fn blocks_text(alloc: Global, image: &Image, case: &str) -> Result<String, Fail> {
+    let f = number(case);
     if f as usize >= image.funcs().len() {
-        return String::from_str(alloc, " none");
+        return Ok(String::from_str(alloc, "none")?);
     }
     match recover(alloc, image, f) {
-        Ok(blocks) => {
-            let mut text = String::new(alloc);
-            for block in blocks.list() {
-                push_block(&mut text, alloc, block)?;
-            }
-            Ok(text)
-        }
-        Err(fault) => fault_text(alloc, fault),
+        Ok(blocks) => Ok(list_text(alloc, blocks.list())?),
+        Err(fault) => Ok(fault_text(alloc, fault)?),
     }
-}
-
-/// The first row with other blocks than are wanted, and those.
-fn first_wrong(alloc: Global, rows: &str) -> Result<String, Fail> {
-    for row in rows.lines() {
-        let (guest, f, wanted) = split(row);
-        let image = image_of(alloc, guest)?;
-        let got = blocks_text(alloc, &image, number(f))?;
-        if got.strip_prefix(' ') != Some(wanted) {
-            return Ok(format!(in alloc; "{row}:{got}")?);
-        }
-    }
-    Ok(String::new(alloc))
 }
 
 const BLOCKS: &str = "\
@@ -79,8 +64,7 @@ zero word | 0 = 10000..10008>";
 
 #[test]
 fn blocks_end_at_branches_jumps_and_their_targets(rt: HostRuntime) -> Result<(), Fail> {
-    assert_eq!(rt; first_wrong(rt.alloc(), BLOCKS)?.as_str(), "");
-    Ok(())
+    check(rt.alloc(), BLOCKS, blocks_text)
 }
 
 const FAULTS: &str = "\
@@ -95,8 +79,7 @@ faults | 6 = misaimed 10030";
 
 #[test]
 fn the_first_fault_is_told(rt: HostRuntime) -> Result<(), Fail> {
-    assert_eq!(rt; first_wrong(rt.alloc(), FAULTS)?.as_str(), "");
-    Ok(())
+    check(rt.alloc(), FAULTS, blocks_text)
 }
 
 /// The null symbol names one more function, which has the second word of the first and the first word of the second.
@@ -107,37 +90,35 @@ neighbours with 1010:8:1000200000000 1018:8:10004 1020:8:8 | 2 = overlap 1";
 
 #[test]
 fn functions_that_overlap_have_no_blocks(rt: HostRuntime) -> Result<(), Fail> {
-    assert_eq!(rt; first_wrong(rt.alloc(), OVERLAPPING)?.as_str(), "");
-    Ok(())
+    check(rt.alloc(), OVERLAPPING, blocks_text)
 }
 
-/// Where the runs of a guest's second function begin, and how many words each has.
-fn runs_text(alloc: Global, guest: &str) -> Result<String, Fail> {
-    let image = image_of(alloc, guest)?;
-    if image.funcs().len() < 2 {
-        return Err(Fail::new("no such function"));
-    }
-    let Ok(index) = FuncIndex::new(alloc, &image) else {
-        return Err(Fail::new("out of memory"));
-    };
-    let Ok(runs) = index.runs(alloc, 1) else {
-        return Err(Fail::new("no blocks"));
-    };
+fn list_of_runs(alloc: Global, runs: &[Run]) -> Result<String, AllocError> {
     let mut text = String::new(alloc);
-    for run in runs.as_slice() {
-        let n = run.words.len();
-        let from = run.from;
-        let piece = format!(in alloc; "{from:x}: {n} ")?;
-        text.push_str(&piece)?;
+    for run in runs {
+        let (from, count) = (run.from, run.words.len());
+        separate(&mut text, " ")?;
+        write!(text, "{from:x}: {count}")?;
     }
     Ok(text)
 }
 
+/// Where the runs of a function begin, and how many words each has.
+fn runs_text(alloc: Global, image: &Image, case: &str) -> Result<String, Fail> {
+    let f = number(case);
+    if f as usize >= image.funcs().len() {
+        return Err(Fail::new("no such function"));
+    }
+    let index = FuncIndex::new(alloc, image)?;
+    match index.runs(alloc, f) {
+        Ok(runs) => Ok(list_of_runs(alloc, runs.as_slice())?),
+        Err(_) => Err(Fail::new("no blocks")),
+    }
+}
+
+const RUNS: &str = "countdown | 1 = 10010: 1 10014: 2 1001c: 3";
+
 #[test]
 fn runs_have_their_words(rt: HostRuntime) -> Result<(), Fail> {
-    assert_eq!(rt;
-        runs_text(rt.alloc(), "countdown")?.as_str(),
-        "10010: 1 10014: 2 1001c: 3 "
-    );
-    Ok(())
+    check(rt.alloc(), RUNS, runs_text)
 }

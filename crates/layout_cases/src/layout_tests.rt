@@ -2,12 +2,12 @@
 //! pairs; or why there is none. Addresses are hexadecimal. What is wanted was told by an independent implementation.
 
 use blocks::fault::Unreadable;
-use cases::images::image_of;
-use cases::layouts::layout_of;
+use cases::layouts::{layout_of, made_layout};
 use cases::orders::plan_of;
-use cases::rows::split;
+use cases::rows::{check, separate};
 use emit::emit::size_of;
 use emit::fault::EmitFault;
+use image::picture::Image;
 use image::ranges::Aim;
 use layout::layout::Layout;
 use layout::point::Point;
@@ -15,85 +15,70 @@ use layout::renders::renders;
 use std::alloc::{AllocError, Global};
 use std::test::Fail;
 
-fn point_text(alloc: Global, point: Option<Point>) -> Result<String, AllocError> {
+fn push_point(text: &mut String, point: Option<Point>) -> Result<(), AllocError> {
     match point {
-        Some(Point::Start(x)) => format!(in alloc; "start {x:x}"),
-        Some(Point::Hop(x)) => format!(in alloc; "hop {x:x}"),
-        Some(Point::Mid(x)) => format!(in alloc; "mid {x:x}"),
-        None => String::from_str(alloc, "none"),
+        Some(Point::Start(x)) => write!(text, "start {x:x}"),
+        Some(Point::Hop(x)) => write!(text, "hop {x:x}"),
+        Some(Point::Mid(x)) => write!(text, "mid {x:x}"),
+        None => text.push_str("none"),
     }
 }
 
-fn push_words(text: &mut String, alloc: Global, layout: &Layout) -> Result<(), AllocError> {
+fn push_words(text: &mut String, layout: &Layout) -> Result<(), AllocError> {
     for (word, point) in layout.words().iter().zip(layout.points()) {
-        let point = point_text(alloc, Some(*point))?;
-        text.push_str(&format!(in alloc; ", {word:08x} {point}")?)?;
+        separate(text, ", ")?;
+        write!(text, "{word:08x} ")?;
+        push_point(text, Some(*point))?;
     }
     Ok(())
 }
 
-fn push_calls(
-    text: &mut String,
-    alloc: Global,
-    what: &str,
-    calls: &[Aim],
-) -> Result<(), AllocError> {
+fn push_calls(text: &mut String, what: &str, calls: &[Aim]) -> Result<(), AllocError> {
     for call in calls {
-        let at = call.at;
-        let func = call.func;
-        let piece = format!(in alloc; ", {what} {at:x} of {func}")?;
-        text.push_str(&piece)?;
+        let (at, func) = (call.at, call.func);
+        separate(text, ", ")?;
+        write!(text, "{what} {at:x} of {func}")?;
     }
     Ok(())
 }
 
 fn layout_text(alloc: Global, layout: &Layout) -> Result<String, AllocError> {
     let mut text = String::new(alloc);
-    push_words(&mut text, alloc, layout)?;
-    push_calls(&mut text, alloc, "site", layout.sites())?;
-    push_calls(&mut text, alloc, "pair", layout.pairs())?;
+    push_words(&mut text, layout)?;
+    push_calls(&mut text, "site", layout.sites())?;
+    push_calls(&mut text, "pair", layout.pairs())?;
     Ok(text)
 }
 
 fn unreadable_text(alloc: Global, func: u32, why: Unreadable) -> Result<String, AllocError> {
     match why {
-        Unreadable::Undecodable(at) => format!(in alloc; ", unreadable {func} undecodable {at:x}"),
-        _ => String::from_str(alloc, ", unreadable"),
+        Unreadable::Undecodable(at) => format!(in alloc; "unreadable {func} undecodable {at:x}"),
+        _ => String::from_str(alloc, "unreadable"),
     }
 }
 
 fn fault_text(alloc: Global, fault: EmitFault) -> Result<String, AllocError> {
     match fault {
-        EmitFault::BranchReach { at, target } => format!(in alloc; ", reach {at:x} {target:x}"),
+        EmitFault::BranchReach { at, target } => format!(in alloc; "reach {at:x} {target:x}"),
         EmitFault::Unreadable { func, why } => unreadable_text(alloc, func, why),
-        EmitFault::NoMemory => String::from_str(alloc, ", out of memory"),
+        EmitFault::NoMemory => String::from_str(alloc, "out of memory"),
     }
 }
 
-/// What the layout of a guest is for a plan at a base, such as `1:2 1 0 at 12000`.
-fn case_text(alloc: Global, guest: &str, case: &str) -> Result<String, Fail> {
-    let image = image_of(alloc, guest)?;
-    match layout_of(alloc, &image, case)? {
-        Ok(layout) => {
-            if !renders(&image, &layout) {
-                return Err(Fail::new("it doesn't render"));
-            }
-            Ok(layout_text(alloc, &layout)?)
-        }
+/// What a layout is that renders its image.
+fn rendered_text(alloc: Global, image: &Image, layout: &Layout) -> Result<String, Fail> {
+    if !renders(image, layout) {
+        return Err(Fail::new("it doesn't render"));
+    }
+    Ok(layout_text(alloc, layout)?)
+}
+
+/// What the layout is for a plan at a base, such as `1:2 1 0 at 12000`.
+fn case_text(alloc: Global, image: &Image, case: &str) -> Result<String, Fail> {
+    match layout_of(alloc, image, case)? {
+        Ok(layout) => rendered_text(alloc, image, &layout),
         Err(fault) => Ok(fault_text(alloc, fault)?),
     }
-}
-
-/// The first row with another layout than is wanted, and that layout.
-fn first_wrong(alloc: Global, rows: &str) -> Result<String, Fail> {
-    for row in rows.lines() {
-        let (guest, case, wanted) = split(row);
-        let got = case_text(alloc, guest, case)?;
-        if got.strip_prefix(", ") != Some(wanted) {
-            return Ok(format!(in alloc; "{row}: {got}")?);
-        }
-    }
-    Ok(String::new(alloc))
 }
 
 const CALLS: &str = "\
@@ -112,8 +97,7 @@ jumps | 0:4 3 2 1 0; 1:0 at 12000 = 00008067 start 1001c, 000280e7 start 1000c, 
 
 #[test]
 fn layouts_of_loops_and_calls(rt: HostRuntime) -> Result<(), Fail> {
-    assert_eq!(rt; first_wrong(rt.alloc(), CALLS)?.as_str(), "");
-    Ok(())
+    check(rt.alloc(), CALLS, case_text)
 }
 
 const BRANCHES: &str = "\
@@ -130,30 +114,16 @@ zero word | 1:0 at 12000 = unreadable 1 undecodable 10008";
 
 #[test]
 fn layouts_of_branches(rt: HostRuntime) -> Result<(), Fail> {
-    assert_eq!(rt; first_wrong(rt.alloc(), BRANCHES)?.as_str(), "");
-    Ok(())
+    check(rt.alloc(), BRANCHES, case_text)
 }
 
-/// The bytes of a plan's layout.
-fn size_text(alloc: Global, guest: &str, plan: &str) -> Result<String, Fail> {
-    let image = image_of(alloc, guest)?;
-    let plan = plan_of(alloc, &image, plan)?;
-    let Ok(size) = size_of(alloc, &image, &plan) else {
+/// How many bytes the layout of a plan has.
+fn size_text(alloc: Global, image: &Image, case: &str) -> Result<String, Fail> {
+    let plan = plan_of(alloc, image, case)?;
+    let Ok(size) = size_of(alloc, image, &plan) else {
         return Err(Fail::new("no size"));
     };
     Ok(format!(in alloc; "{size}")?)
-}
-
-/// The first row with another size than is wanted, and that size.
-fn first_wrong_size(alloc: Global, rows: &str) -> Result<String, Fail> {
-    for row in rows.lines() {
-        let (guest, plan, wanted) = split(row);
-        let got = size_text(alloc, guest, plan)?;
-        if got.as_str() != wanted {
-            return Ok(format!(in alloc; "{row}: {got}")?);
-        }
-    }
-    Ok(String::new(alloc))
 }
 
 // A guest with so many words between a branch and its target, an order of the three blocks, and the bytes of the layout.
@@ -169,63 +139,60 @@ over 1022 | 0:1 0 2 = 4108";
 
 #[test]
 fn a_branch_past_its_reach_is_long(rt: HostRuntime) -> Result<(), Fail> {
-    assert_eq!(rt; first_wrong_size(rt.alloc(), SIZES)?.as_str(), "");
-    Ok(())
+    check(rt.alloc(), SIZES, size_text)
 }
 
-/// The points of three addresses of a layout: of a word, of half a word, and past the last word.
-fn points(alloc: Global) -> Result<String, Fail> {
-    let image = image_of(alloc, "countdown")?;
-    let Ok(layout) = layout_of(alloc, &image, "1:2 1 0 at 12000")? else {
-        return Err(Fail::new("no layout"));
-    };
-    let mut text = point_text(alloc, layout.point_at(0x12004))?;
-    text.push_str(", ")?;
-    text.push_str(&point_text(alloc, layout.point_at(0x12006))?)?;
-    text.push_str(", ")?;
-    text.push_str(&point_text(alloc, layout.point_at(0x12024))?)?;
+/// The point of an address of a layout, such as `1:2 1 0 at 12000, 12004`.
+fn point_text(alloc: Global, image: &Image, case: &str) -> Result<String, Fail> {
+    let (plan, at) = case.split_once(", ").unwrap_or(("", ""));
+    let at = u64::from_str_radix(at, 16).unwrap_or(0);
+    let layout = made_layout(alloc, image, plan)?;
+    let mut text = String::new(alloc);
+    push_point(&mut text, layout.point_at(at))?;
     Ok(text)
 }
 
+const POINTS: &str = "\
+a word: countdown | 1:2 1 0 at 12000, 12004 = mid 1001c
+half a word: countdown | 1:2 1 0 at 12000, 12006 = none
+past the last word: countdown | 1:2 1 0 at 12000, 12024 = none";
+
 #[test]
 fn an_address_has_the_point_of_its_word(rt: HostRuntime) -> Result<(), Fail> {
-    assert_eq!(rt; points(rt.alloc())?.as_str(), "mid 1001c, none, none");
-    Ok(())
+    check(rt.alloc(), POINTS, point_text)
 }
 
-/// Whether the copy of a layout renders the image: as it is, and with another second word.
-fn changed(alloc: Global) -> Result<(bool, bool), Fail> {
-    let image = image_of(alloc, "countdown")?;
-    let Ok(layout) = layout_of(alloc, &image, "1:2 1 0 at 12000")? else {
-        return Err(Fail::new("no layout"));
-    };
-    let mut other = layout.copy(alloc)?;
-    let before = renders(&image, &other);
-    if other.word_at(0x12004).is_some() {
-        other.set_word(0x12004, 0x13);
+/// Puts another word at the address of a word.
+fn change(layout: &mut Layout, at: u64) {
+    if layout.word_at(at).is_some() {
+        layout.set_word(at, 0x13);
     }
-    Ok((before, renders(&image, &other)))
 }
+
+/// Whether the copy of a layout renders its image, such as `1:2 1 0 at 12000`, or `1:2 1 0 at 12000, 12004` with another word there.
+fn renders_text(alloc: Global, image: &Image, case: &str) -> Result<String, Fail> {
+    let (plan, at) = case.split_once(", ").unwrap_or((case, ""));
+    let layout = made_layout(alloc, image, plan)?;
+    let mut copy = layout.copy(alloc)?;
+    change(&mut copy, u64::from_str_radix(at, 16).unwrap_or(0));
+    let renders = renders(image, &copy);
+    Ok(format!(in alloc; "{renders}")?)
+}
+
+const CHANGED: &str = "\
+as it is: countdown | 1:2 1 0 at 12000 = true
+with another second word: countdown | 1:2 1 0 at 12000, 12004 = false";
 
 #[test]
 fn a_layout_with_another_word_renders_no_more(rt: HostRuntime) -> Result<(), Fail> {
-    let (before, after) = changed(rt.alloc())?;
-    assert!(rt; before);
-    assert!(rt; !after);
-    Ok(())
-}
-
-/// Whether the layout of a plan at a base renders its image.
-fn rendered(alloc: Global, case: &str) -> Result<bool, Fail> {
-    let image = image_of(alloc, "countdown")?;
-    let Ok(layout) = layout_of(alloc, &image, case)? else {
-        return Err(Fail::new("no layout"));
-    };
-    Ok(renders(&image, &layout))
+    check(rt.alloc(), CHANGED, renders_text)
 }
 
 #[test]
 fn a_layout_outside_the_region_renders_nothing(rt: HostRuntime) -> Result<(), Fail> {
-    assert!(rt; !rendered(rt.alloc(), "1:2 1 0 at 92000")?);
-    Ok(())
+    check(
+        rt.alloc(),
+        "countdown | 1:2 1 0 at 92000 = false",
+        renders_text,
+    )
 }

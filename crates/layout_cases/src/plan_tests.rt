@@ -1,9 +1,9 @@
 //! Plans of guests. A row is a guest, a plan, as functions with their blocks in order, and whether it is one. What is wanted was told
 //! by an independent implementation.
 
-use cases::images::image_of;
 use cases::orders::{parts_of, plan_of, plan_text};
-use cases::rows::split;
+use cases::rows::check;
+use image::picture::Image;
 use plans::plan::{Plan, PlanFault};
 use std::alloc::{AllocError, Global};
 use std::test::Fail;
@@ -17,28 +17,15 @@ fn fault_text(alloc: Global, fault: PlanFault) -> Result<String, AllocError> {
 }
 
 /// What becomes of a plan, with the number of its parts.
-fn given_text(alloc: Global, guest: &str, text: &str) -> Result<String, Fail> {
-    let image = image_of(alloc, guest)?;
-    let parts = parts_of(alloc, text)?;
-    match Plan::given(alloc, &image, &parts) {
+fn given_text(alloc: Global, image: &Image, case: &str) -> Result<String, Fail> {
+    let parts = parts_of(alloc, case)?;
+    match Plan::given(alloc, image, &parts) {
         Ok(plan) => {
             let n = plan.parts().len();
             Ok(format!(in alloc; "a plan of {n}")?)
         }
         Err(fault) => Ok(fault_text(alloc, fault)?),
     }
-}
-
-/// The first row with another answer than is wanted, and that answer.
-fn first_wrong(alloc: Global, rows: &str) -> Result<String, Fail> {
-    for row in rows.lines() {
-        let (guest, plan, wanted) = split(row);
-        let got = given_text(alloc, guest, plan)?;
-        if got.as_str() != wanted {
-            return Ok(format!(in alloc; "{row}: {got}")?);
-        }
-    }
-    Ok(String::new(alloc))
 }
 
 const PLANS: &str = "\
@@ -58,8 +45,7 @@ countdown | 2:0; 1:2 1 = no function";
 
 #[test]
 fn orders_of_blocks_are_plans(rt: HostRuntime) -> Result<(), Fail> {
-    assert_eq!(rt; first_wrong(rt.alloc(), PLANS)?.as_str(), "");
-    Ok(())
+    check(rt.alloc(), PLANS, given_text)
 }
 
 const ANY_ORDERS: &str = "\
@@ -72,19 +58,17 @@ zero word | 1:0; 1:0 = not a plan";
 
 #[test]
 fn a_function_without_blocks_takes_any_order(rt: HostRuntime) -> Result<(), Fail> {
-    assert_eq!(rt; first_wrong(rt.alloc(), ANY_ORDERS)?.as_str(), "");
-    Ok(())
+    check(rt.alloc(), ANY_ORDERS, given_text)
 }
 
 /// The text of a plan's copy.
-fn copied(alloc: Global, plan: &str) -> Result<String, Fail> {
-    let image = image_of(alloc, "countdown")?;
-    let copy = plan_of(alloc, &image, plan)?.copy(alloc)?;
+fn copy_text(alloc: Global, image: &Image, case: &str) -> Result<String, Fail> {
+    let plan = plan_of(alloc, image, case)?;
+    let copy = plan.copy(alloc)?;
     Ok(plan_text(alloc, &copy)?)
 }
 
 #[test]
 fn a_plan_is_copied(rt: HostRuntime) -> Result<(), Fail> {
-    assert_eq!(rt; copied(rt.alloc(), "1:2 0 1")?.as_str(), "1:2 0 1");
-    Ok(())
+    check(rt.alloc(), "countdown | 1:2 0 1 = 1:2 0 1", copy_text)
 }

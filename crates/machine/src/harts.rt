@@ -2,7 +2,7 @@
 ghost use Rattle.std.specs.Prelude.{◌≡◌, ◌<◌, ◌≤◌, ◌+◌, ◌==◌, ◌&&◌, ◌++◌, ◌∷◌, [], true, false, nat_lt, length, map, slice_set, is_some, IfOk};
 ghost use Rattle.std.specs.List.{list_any, list_all};
 ghost use Rattle.rv_isa.specs.Instr.{HasWord};
-ghost use Rattle.hart.specs.Harts.{reg, jumped};
+ghost use Rattle.hart.specs.Harts.{reg, with_reg, jumped};
 ghost use Rattle.hart.specs.Effects.{effect_of, Acts, hart_after};
 ghost use Rattle.guest_sys.specs.Limits.{hart_limit};
 ghost use Rattle.machine.specs.Harts.{is_live, has_ended, hart_in, lost, unreserved, written_by, written_in, is_in, woken, awake, waiting_at, waiting_as, is_stalled, answered, stopped, child_of, with_thread, replied};
@@ -138,6 +138,16 @@ impl Harts {
     {
         let hart = &mut self.list[h as usize];
         hart.regs = regs;
+        hart.pc = pc;
+    }
+
+    /// Writes one register of hart `h`, and gives it another word to go on with.
+    pub fn lead(&mut self, h: u32, rd: Reg, v: Value, pc: u64)
+        requires { h < length self.old }
+        ensures { self.new ≡ slice_set self.old h (record (hart_in self.old h) { regs = with_reg (hart_in self.old h).regs rd v; pc = pc }) }
+    {
+        let hart = &mut self.list[h as usize];
+        hart.set_reg(rd, v);
         hart.pc = pc;
     }
 

@@ -2,6 +2,7 @@
 ghost use Rattle.std.specs.Prelude.{◌≡◌, ◌<◌, ◌&&◌, ℕ, true, length, replicate, OnOk, OnErr, IfOk, not, is_some};
 ghost use Rattle.rv_isa.specs.Instr.{HasWord};
 ghost use Rattle.hart.specs.Effects.{effect_of, answer_of};
+ghost use Rattle.hart.specs.Harts.{with_reg};
 ghost use Rattle.guest_mem.specs.Memory.{is_link_at};
 ghost use Rattle.guest_mem.specs.Access.{links_of, with_link};
 ghost use Rattle.guest_sys.specs.Calls.{output};
@@ -200,6 +201,14 @@ impl Machine {
         ensures { self.new ≡ with_hart h (record (hart_in self.old.harts h) { regs = regs; pc = pc }) self.old }
     {
         self.harts.set(h, regs, pc);
+    }
+
+    /// Writes one register of a hart, and gives it another word to go on with.
+    pub fn lead(&mut self, h: u32, rd: Reg, v: Value, pc: u64)
+        requires { h < length self.old.harts }
+        ensures { self.new ≡ with_hart h (record (hart_in self.old.harts h) { regs = with_reg (hart_in self.old.harts h).regs rd v; pc = pc }) self.old }
+    {
+        self.harts.lead(h, rd, v, pc);
     }
 
     /// The memory of the guest.

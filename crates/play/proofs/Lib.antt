@@ -11,4 +11,4 @@ pub mod ReadyNext
 pub mod Running
 pub mod Whole
 pub mod WorldLaws
-pub mod Written
+pub mod Promised

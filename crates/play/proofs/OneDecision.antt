@@ -1,8 +1,10 @@
 -- Words, files and input ask for one thing.
-use Rattle.std.proofs.Common.{◌≡◌, ℕ, Bool, List, [], ◌∷◌, Option, Some, None, Result, Ok, Err, ap, sym, subst, ◌∙◌}
+use Rattle.std.proofs.Common.{◌≡◌, ℕ, List, [], ◌∷◌, Option, Some, None, Result, Ok, Err, ap, sym, subst, ◌∙◌}
 use Rattle.oc_base.specs.Outside.{Disk}
 use Rattle.oc_base.specs.declared.range.Range.{Range}
-use Rattle.image.specs.Picture.{Picture, IsKept}
+use Rattle.top_call.specs.Call.{DecidesBy}
+use Rattle.top_call.specs.Reading.{given_by}
+use Rattle.image.specs.Picture.{Picture}
 use Rattle.elf_read.specs.Parts.{parts_of}
 use Rattle.relocs.proofs.OneImage.{one_image}
 use Rattle.sched_log.specs.Script.{events_of, fault_of}
@@ -10,6 +12,7 @@ use Rattle.sched_log.specs.declared.event.Event.{Event}
 use Rattle.sched_log.specs.declared.event.Event.TheVariants.{Steps, Real, Till, Given as Plan, Retire}
 use Rattle.sched_log.specs.declared.fault.ScriptFault.{ScriptFault}
 use Rattle.report.specs.declared.answer.Ended.{Ended}
+use Rattle.report.specs.declared.answer.Ended.TheVariants.{Program, Script}
 use Rattle.report.specs.declared.answer.ProgramFault.{ProgramFault}
 use Rattle.report.specs.declared.answer.ProgramFault.TheVariants as program
 use Rattle.report.specs.declared.writing.Delivery.{Delivery}
@@ -17,7 +20,8 @@ use Rattle.world.specs.Worlds.{Replaced, started}
 use Rattle.world.specs.Runs.{Atom, a_step, a_real_step, a_replacement, a_retirement, IsRun}
 use Rattle.play.specs.Events.{atoms_of, turns, Plays}
 use Rattle.play.specs.Ready.{CanObey, AreReady}
-use Rattle.play.specs.Decision.{region_in, Given, given_by, Builds, IsPlayed, RunsTo, IsRunOfBuilt, Delivers, DecidesFrom, Decides, delivery_of}
+use Rattle.report.specs.Cause.{refusal_of}
+use Rattle.play.specs.Decision.{region_in, Given, reading_of, HasFault, IsBuilt, IsPlayed, Delivers, bad_program, bad_script, ran, play, Decides, delivery_of}
 use Rattle.machine.specs.States.{State}
 use Rattle.machine.specs.Start.{start_of}
 use Rattle.machine.specs.Steps.{original_run}
@@ -25,16 +29,19 @@ use Rattle.play.proofs.Laws.{Stands, Laws, OneResult}
 use Rattle.play.proofs.Originally.{event_follows}
 use Rattle.play.proofs.ReadyNext.{AreSteps, steps_are, reals_are, turns_are, can_obey, ready_first, ready_next}
 
-one_built : (bytes : List ℕ) (region : Option Range) (x y : Result Picture ProgramFault) → Builds bytes region x → Builds bytes region y → x ≡ y
-one_built bytes region (Ok p) (Ok q) a b = ap Ok (one_image (parts_of bytes) (region_in bytes region) p q a.is b.is)
-one_built bytes region (Ok p) (Err (program.Elf f)) a b = let e = a.fine in cc
-one_built bytes region (Ok p) (Err (program.Image f)) a b = let e = a.free in let g = b.1 in cc
-one_built bytes region (Err (program.Elf f)) (Ok q) a b = let e = b.fine in cc
-one_built bytes region (Err (program.Elf f)) (Err (program.Elf g)) a b = cc
-one_built bytes region (Err (program.Elf f)) (Err (program.Image g)) a b = let e = b.0 in cc
-one_built bytes region (Err (program.Image f)) (Ok q) a b = let e = a.1 in let g = b.free in cc
-one_built bytes region (Err (program.Image f)) (Err (program.Elf g)) a b = let e = a.0 in cc
-one_built bytes region (Err (program.Image f)) (Err (program.Image g)) a b = let e = a.1 in let h = b.1 in cc
+-- a file with an image has no fault, and one with a fault one
+one_fault : (bytes : List ℕ) (region : Option Range) (f g : ProgramFault) → HasFault bytes region f → HasFault bytes region g → f ≡ g
+one_fault bytes region (program.Elf f) (program.Elf g) a b = cc
+one_fault bytes region (program.Elf f) (program.Image g) a b = let e = b.0 in cc
+one_fault bytes region (program.Image f) (program.Elf g) a b = let e = a.0 in cc
+one_fault bytes region (program.Image f) (program.Image g) a b = let e = a.1 in let h = b.1 in cc
+
+no_fault : (bytes : List ℕ) (region : Option Range) (p : Picture) (f : ProgramFault) → IsBuilt bytes region p → HasFault bytes region f → ⊥
+no_fault bytes region p (program.Elf f) a b = let e = a.fine in cc
+no_fault bytes region p (program.Image f) a b = let e = a.free in let g = b.1 in cc
+
+one_built : (bytes : List ℕ) (region : Option Range) (p q : Picture) → IsBuilt bytes region p → IsBuilt bytes region q → p ≡ q
+one_built bytes region p q a b = one_image (parts_of bytes) (region_in bytes region) p q a.is b.is
 
 -- steps have one result
 one_of_steps : (atoms : List Atom) (hs ks : List ℕ) (w u v : Replaced) → AreSteps atoms → IsRun atoms hs w u → IsRun atoms ks w v → u ≡ v
@@ -61,27 +68,33 @@ module _ (laws : Laws) (one : OneResult) where
       let next : Stands a.0 (original_run w.image a.1 o) = event_follows laws e a.1 w a.0 o (can_obey e es w ready) a.3 at in
       one_end es a.2 b.2 a.0 u v (original_run w.image a.1 o) (ready_next e es w a.0 ready (a.1, a.3)) next a.5 (subst (λ x. Plays es b.2 x v) (sym same) b.5)
 
-  one_play : (image : Picture) (events : List Event) (input : List ℕ) (shown : Bool) (d e : Result Delivery Ended) → IsKept image → IsPlayed image events input shown d → IsPlayed image events input shown e → d ≡ e
-  one_play image events input shown d e kept a b =
-      let same : a.world ≡ b.world = one_end events a.played.0 b.played.0 (started image input) a.world b.world (start_of image input) (ready_first image input events a.range) (laws.start image input kept) a.played.1 b.played.1 in
-      a.delivers ∙ ap (λ w. Ok (delivery_of shown w)) same ∙ sym b.delivers
+  -- an image, a script and an input have one world at the end
+  one_world : (given : Given) (p q : Picture) (u v : Replaced) → IsBuilt given.program given.region p → IsBuilt given.program given.region q → IsPlayed p given.script given.input u → IsPlayed q given.script given.input v → u ≡ v
+  one_world given p q u v built built' a b' =
+      let b : IsPlayed p given.script given.input v = subst (λ x. IsPlayed x given.script given.input v) (sym (one_built given.program given.region p q built built')) b' in
+      one_end (events_of p given.script) a.played.0 b.played.0 (started p given.input) u v (start_of p given.input) (ready_first p given.input (events_of p given.script) a.range) (laws.start p given.input built.kept) a.played.1 b.played.1
 
-  one_run : (image : Picture) (events : List Event) (input : List ℕ) (shown : Bool) (fault : Option ScriptFault) (d e : Result Delivery Ended) → IsKept image → RunsTo image events input shown fault d → RunsTo image events input shown fault e → d ≡ e
-  one_run image events input shown (Some fault) d e kept a b = a ∙ sym b
-  one_run image events input shown None d e kept a b = one_play image events input shown d e kept a b
+  -- a script with a fault has one, and no run
+  one_script : (given : Given) (p q : Picture) (f g : ScriptFault) → IsBuilt given.program given.region p → IsBuilt given.program given.region q → fault_of p given.script ≡ Some f → fault_of q given.script ≡ Some g → f ≡ g
+  one_script given p q f g built built' a b = let e = one_built given.program given.region p q built built' in cc
 
-  one_of_built : (given : Given) (image : Result Picture ProgramFault) (d e : Result Delivery Ended) → Builds given.program given.region image → IsRunOfBuilt given image d → IsRunOfBuilt given image e → d ≡ e
-  one_of_built given (Ok image) d e built a b = one_run image (events_of image given.script) given.input given.shown (fault_of image given.script) d e built.kept a b
-  one_of_built given (Err fault) d e built a b = a ∙ sym b
+  no_run : (given : Given) (p q : Picture) (f : ScriptFault) → IsBuilt given.program given.region p → IsBuilt given.program given.region q → fault_of p given.script ≡ Some f → fault_of q given.script ≡ None → ⊥
+  no_run given p q f built built' a b = let e = one_built given.program given.region p q built built' in cc
 
   one_delivery : (given : Given) (d e : Result Delivery Ended) → Delivers given d → Delivers given e → d ≡ e
-  one_delivery given d e a b =
-      let same : a.0 ≡ b.0 = one_built given.program given.region a.0 b.0 a.1 b.1 in
-      one_of_built given a.0 d e a.1 a.2 (subst (λ x. IsRunOfBuilt given x e) (sym same) b.2)
+  one_delivery given _ _ (bad_program f a) (bad_program g b) = ap (λ x. Err (Program x)) (one_fault given.program given.region f g a b)
+  one_delivery given _ _ (bad_program f a) (bad_script q g built b) = absurd (no_fault given.program given.region q f built a)
+  one_delivery given _ _ (bad_program f a) (ran q v built b) = absurd (no_fault given.program given.region q f built a)
+  one_delivery given _ _ (bad_script p f built a) (bad_program g b) = absurd (no_fault given.program given.region p g built b)
+  one_delivery given _ _ (bad_script p f built a) (bad_script q g built' b) = ap (λ x. Err (Script x)) (one_script given p q f g built built' a b)
+  one_delivery given _ _ (bad_script p f built a) (ran q v built' b) = absurd (no_run given p q f built built' a b.fine)
+  one_delivery given _ _ (ran p u built a) (bad_program g b) = absurd (no_fault given.program given.region p g built b)
+  one_delivery given _ _ (ran p u built a) (bad_script q g built' b) = absurd (no_run given q p g built' built b a.fine)
+  one_delivery given _ _ (ran p u built a) (ran q v built' b) = ap (λ w. Ok (delivery_of given.shown w)) (one_world given p q u v built built' a b)
 
-  from_one : (given : Result Given Ended) (d e : Result Delivery Ended) → DecidesFrom given d → DecidesFrom given e → d ≡ e
+  from_one : (given : Result Given Ended) (d e : Result Delivery Ended) → DecidesBy play given d → DecidesBy play given e → d ≡ e
   from_one (Ok given) d e a b = one_delivery given d e a b
   from_one (Err ended) d e a b = a ∙ sym b
 
-  pub one_decision : (words : List (List ℕ)) (disk : Disk) (all : List ℕ) (d e : Result Delivery Ended) → Decides words disk all d → Decides words disk all e → d ≡ e
-  one_decision words disk all d e a b = from_one (given_by words disk all) d e a b
+  pub one_decision : (words : List (List ℕ)) (disk : Disk) (input : List ℕ) (d e : Result Delivery Ended) → Decides words disk input d → Decides words disk input e → d ≡ e
+  one_decision words disk input d e a b = from_one (given_by refusal_of (reading_of words) disk input) d e a b

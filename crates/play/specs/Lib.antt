@@ -1,4 +1,4 @@
-pub mod Causes
+pub mod Promise
 pub mod Decision
 pub mod Events
 pub mod Originals

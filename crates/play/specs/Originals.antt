@@ -1,6 +1,7 @@
 -- What a run delivers is what the original machine delivers. Source: this project; the outline is OCOLOS (Zhang et al., MICRO 2022).
-use Rattle.std.specs.Prelude.{◌≡◌, ℕ, List, [], Result, Ok, Err, sum_by}
+use Rattle.std.specs.Prelude.{◌≡◌, ℕ, List, [], Ok, sum_by}
 use Rattle.oc_base.specs.Outside.{Disk}
+use Rattle.top_call.specs.Reading.{given_by}
 use Rattle.image.specs.Picture.{Picture}
 use Rattle.machine.specs.States.{State}
 use Rattle.machine.specs.Start.{start_of}
@@ -10,7 +11,8 @@ use Rattle.report.specs.declared.writing.Delivery.{Delivery}
 use Rattle.world.specs.Worlds.{Replaced, Related, started}
 use Rattle.play.specs.Events.{Plays}
 use Rattle.play.specs.Schedule.{final_state}
-use Rattle.play.specs.Decision.{Given, given_by, Builds, closed, outcome_of, delivery_of}
+use Rattle.report.specs.Cause.{refusal_of}
+use Rattle.play.specs.Decision.{Given, reading_of, IsBuilt, closed, outcome_of, delivery_of}
 
 -- the outcome and both outputs are those of a state of the original machine
 pub record ShowsAs (d : Delivery) (o : State) : Type 0 where
@@ -23,7 +25,7 @@ pub record ShowsAs (d : Delivery) (o : State) : Type 0 where
 -- state is the original run of the script's schedule.
 pub record IsOriginals (given : Given) (d : Delivery) : Type 0 where
   pub image : Picture
-  pub built : Builds given.program given.region (Ok image)
+  pub built : IsBuilt given.program given.region image
   pub harts : List ℕ
   pub world : Replaced
   pub plays : Plays (events_of image given.script) harts (started image given.input) world
@@ -37,5 +39,5 @@ pub record IsOriginals (given : Given) (d : Delivery) : Type 0 where
 -- where this run is asked for, it is the original machine's
 pub record RunsOriginally (words : List (List ℕ)) (disk : Disk) (input : List ℕ) (d : Delivery) : Type 0 where
   pub given : Given
-  pub read : given_by words disk input ≡ Ok given
+  pub read : given_by refusal_of (reading_of words) disk input ≡ Ok given
   pub originals : IsOriginals given d

@@ -1,9 +1,10 @@
 //! What the bytes of a program, of a script and of an input deliver.
 
-ghost use Rattle.std.specs.Prelude.{◌≡◌, Ok, Err, IfOk, IfErr, IfSome};
+ghost use Rattle.std.specs.Prelude.{◌≡◌, ◌⊎◌, IfOk, IfErr, IfSome};
+ghost use Rattle.report.specs.declared.answer.Ended.{Ended};
 ghost use Rattle.image.specs.Picture.{IsPaged};
-ghost use Rattle.report.specs.Cause.{Reason, Because};
-ghost use Rattle.play.specs.Decision.{Builds, Refuses, IsRunOf, Delivers, closed, delivery_of, outcome_of};
+ghost use Rattle.top_call.specs.Call.{UnlessFull};
+ghost use Rattle.play.specs.Decision.{IsBuilt, Refuses, RunsTo, Delivers, closed, delivery_of, outcome_of};
 
 use crate::schedule::perform;
 use elf_read::fault::ElfFault;
@@ -53,8 +54,8 @@ fn closed(text: Items<u8>) -> Result<Items<u8>, NoMemory>
 // The image of a program, with the region that is given or the default one.
 fn build(alloc: Global, bytes: &[u8], region: Option<Range>) -> Result<Image, Ended>
     requires pages { IfSome region IsPaged }
-    ensures image { IfOk result (λ image. Builds bytes.now region (Ok image)) }
-    ensures refusal { IfErr result (Reason ⊥ (λ _. ⊥) (Refuses bytes.now region)) }
+    ensures image { IfOk result (IsBuilt bytes.now region) }
+    ensures refusal { IfErr result (λ ended. Refuses bytes.now region ended ⊎ (ended ≡ Ended.NoMemory)) }
 {
     let elf = match read_elf(alloc, bytes) {
         Ok(elf) => elf,
@@ -94,7 +95,7 @@ fn run_image(
     input: Vec<u8>,
     shown: bool,
 ) -> Result<Delivery, Ended>
-    ensures { Because ⊥ (λ _. ⊥) (IsRunOf image script.now input.items shown) result }
+    ensures { UnlessFull Ended.NoMemory (RunsTo image script.now input.items shown) result }
 {
     let events = match read_script(alloc, &image, script) {
         Ok(events) => events,
@@ -120,7 +121,7 @@ pub fn run(
     shown: bool,
 ) -> Result<Delivery, Ended>
     requires pages { IfSome region IsPaged }
-    ensures { Because ⊥ (λ _. ⊥) (Delivers (record { program = program.now; script = script.now; input = input.items; region = region; shown = shown })) result }
+    ensures { UnlessFull Ended.NoMemory (Delivers (record { program = program.now; script = script.now; input = input.items; region = region; shown = shown })) result }
 {
     let image = match build(alloc, program, region) {
         Ok(image) => image,

@@ -1,4 +1,3 @@
 pub mod Answer
 pub mod Cause
-pub mod Reading
 pub mod Text

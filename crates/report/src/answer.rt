@@ -10,6 +10,7 @@ use oc_base::text::Text;
 use relocs::fault::ImageFault;
 use sched_log::fault::ScriptFault;
 use thiserror::Error;
+use top_call::reading::Unread;
 
 /// Why a file is no program.
 #[derive(Clone, Copy, Debug, PartialEq, Eq, Error)]
@@ -41,6 +42,20 @@ pub enum Ended {
     WriteFault,
     /// The call ran out of memory.
     NoMemory,
+}
+
+impl From<Unread> for Ended {
+    ghost use Rattle.report.specs.Cause.{refusal_of};
+
+    ghost from_gives = { λ why ended. ended ≡ refusal_of why };
+
+    fn from(why: Unread) -> Ended {
+        match why {
+            Unread::Failed(name) => Ended::ReadFault(name),
+            Unread::TooLong(name) => Ended::TooLong(name),
+            Unread::NoMemory => Ended::NoMemory,
+        }
+    }
 }
 
 /// What a call answers.

@@ -3,11 +3,7 @@
 
 pub mod answer;
 pub mod line;
-pub mod reading;
 #[cfg(test)]
 mod tests;
 pub mod text;
 pub mod writing;
-
-/// The most bytes of an input.
-pub const INPUT_LIMIT: usize = 16777216;

@@ -3,7 +3,7 @@
 use crate::answer::{Answer, Ended, ProgramFault, status};
 use crate::line::last_line;
 use crate::text::report;
-use crate::writing::{Delivery, deliver, prepare};
+use crate::writing::{Delivery, finish};
 use blocks::fault::Unreadable;
 use elf_read::fault::ElfFault;
 use machine::outcome::Outcome;
@@ -203,10 +203,9 @@ fn written(alloc: Global, shown: bool) -> Result<Answer, Fail> {
         report: Items::from_slice(alloc, b"c\n")?,
         shown,
     };
-    let writing = prepare(alloc, Ok(delivery))?;
     let mut out = MemSink::new(Vec::new(alloc), Vec::new(alloc));
     let mut err = MemSink::new(Vec::new(alloc), Vec::new(alloc));
-    let answer = deliver(alloc, writing, &mut out, &mut err);
+    let answer = finish(alloc, Ok(delivery), &mut out, &mut err);
     let wanted: &[u8] = if shown {
         b"b\nc\nocolos: exit 28\n"
     } else {

@@ -12,6 +12,7 @@ use Rattle.layout.specs.Points.{read}
 abbrev pub end_of : Laid → ℕ
 end_of l = l.base + 4 * length l.words
 
+-- one ends before the other begins
 abbrev pub LieApart : Laid → Laid → Type 0
 LieApart l m = (end_of l ≤ m.base) ⊎ (end_of m ≤ l.base)
 
@@ -43,8 +44,8 @@ aims_of l = filter_map (aim_of l) (l.sites ++ l.pairs)
 abbrev pub CallsInto : List Laid → (j k : ℕ) → Type 0
 CallsInto lives j k = IsSomeAnd (slice_get lives j) (λ l. PointInto lives (aims_of l) k)
 
--- The positions of the layouts that are referred to: the least set that holds each into which a pointer points, and each into which a
--- site or pair of another one of the set points.
+-- The positions of the layouts that are referred to: the least set that has each layout into which one of these addresses points, and
+-- each into which a site or pair of another layout of the set points.
 pub data Refers (lives : List Laid) (held : List ℕ) : ℕ → Type 0 where
   by_pointer : (k : ℕ) → PointInto lives held k → Refers lives held k
   by_call : (j k : ℕ) → j ≢ k → Refers lives held j → CallsInto lives j k → Refers lives held k

@@ -2,6 +2,7 @@
 use Rattle.std.proofs.Common.{◌≡◌, ◌≢◌, ℕ, zero, suc, ◌+◌, ◌%◌, ◌<◌, Bool, true, false, cond, refl, sym, ap, ◌∙◌, subst, arith}
 use Rattle.std.specs.Prelude.{List, Option, Some, None, ◌&&◌, is_some, slice_get, slice_set}
 use Rattle.std.proofs.lemmas.Bool.{false≢true, and_parts}
+use Rattle.rv_isa.specs.declared.instr.Instr.{Instr}
 use Rattle.rv_isa.specs.declared.instr.Instr.TheVariants.{Auipc, Jal}
 use Rattle.image.specs.Targets.{target, made_by}
 use Rattle.image.specs.Picture.{Picture}
@@ -9,11 +10,11 @@ use Rattle.image.specs.Picture as image
 use Rattle.link_tags.specs.declared.value.Value.{Value}
 use Rattle.link_tags.specs.Values.{plain}
 use Rattle.hart.specs.declared.hart.Hart.{Hart}
-use Rattle.hart.specs.Harts.{after}
+use Rattle.hart.specs.Harts.{with_reg, after}
 use Rattle.hart.specs.Effects.{next, hart_after}
 use Rattle.layout.specs.declared.point.Point.{Point}
 use Rattle.layout.specs.declared.point.Point.TheVariants.{Start, Hop, Mid}
-use Rattle.layout.specs.Points.{Code, at_start}
+use Rattle.layout.specs.Points.{Code, at_start, read}
 use Rattle.layout.specs.Rows as rows
 use Rattle.layout.specs.Rows.{StartRow, no_word, unread, kept, address_in_place, address_moved, jump_register, call_second, branch, branch_inverted, MovedRow, HopRow, Renders}
 use Rattle.layout.proofs.TextRows.{read_is, read_back}
@@ -69,10 +70,23 @@ rank_small c a = small (is_layout_step c a) (c.point a)
 no : {b : Bool} {A : Type 0} → b ≡ false → b ≡ true → A
 no f t = absurd (false≢true (sym f ∙ t))
 
--- where a step of the layout leads: it changes the hart's pc and registers alone
+-- what a step of the layout makes of its hart, by what its word reads as
+abbrev pub hart_led : Option Instr → Hart → Hart
+hart_led (Some (Auipc rd imm)) h = record h { regs = with_reg h.regs rd (plain (made_by h.pc imm)); pc = after h.pc }
+hart_led (Some (Jal rd off)) h = record h { pc = target h.pc off }
+hart_led _ h = h
+
+-- it changes the hart's pc and registers alone
+led_alone : (o : Option Instr) (h : Hart) → hart_led o h ≡ record h { regs = (hart_led o h).regs; pc = (hart_led o h).pc }
+led_alone None h = refl
+led_alone (Some (Auipc rd imm)) h = refl
+led_alone (Some (Jal rd off)) h = refl
+led_alone (Some i) h = refl
+
+-- where a step of the layout leads
 record Leads (p : Picture) (c : Code) (h : ℕ) (hart : Hart) (r : State) : Type 0 where
   new : Hart
-  alone : new ≡ record hart { regs = new.regs; pc = new.pc }
+  is : new ≡ hart_led (read c.word hart.pc) hart
   status : new.status ≡ hart.status
   step : on_fetched (origin c) p h (c.word hart.pc) r ≡ with_hart h new r
   less : rank c new.pc < rank c hart.pc
@@ -86,7 +100,7 @@ module _ (p : Picture) (c : Code) (image_kept : image.IsKept p) (code : IsCodeOf
       let here = rank_at c hart.pc true (Some (Hop x)) (kind_at_hop c hart.pc x s) s in
       record {
         new = record hart { pc = to };
-        alone = refl;
+        is = sym (ap (λ o. hart_led o hart) m.word);
         status = refl;
         step = read_fetched (origin c) p h r hart c.word (Jal 0 m.aim) at m.word
             ∙ ap (λ e. after_effect (origin c) p h false e r) (jump_effect (origin c) r.memory hart 0 m.aim) ∙ hop_after (origin c) p h to r hart at whole;
@@ -103,7 +117,7 @@ module _ (p : Picture) (c : Code) (image_kept : image.IsKept p) (code : IsCodeOf
       let here = rank_at c hart.pc true (Some (Start x)) l s in
       record {
         new = hart_after (next rd v hart.reservation) hart;
-        alone = refl;
+        is = sym (ap (λ o. hart_led o hart) m.first);
         status = refl;
         step = read_fetched (origin c) p h r hart c.word (Auipc rd high) at m.first
             ∙ ap (λ e. after_effect (origin c) p h false e r) (address_effect (origin c) r.memory hart rd high) ∙ next_after (origin c) p h false rd v hart.reservation r hart at;
@@ -151,10 +165,10 @@ unfolding step_with
 stepped_to fetch org p h s e l = rw (e, l) refl
 
 module _ (p : Picture) (c : Code) (image_kept : image.IsKept p) (code : IsCodeOf p c) (n : Renders c) (h : ℕ) where
-  -- a step of the layout changes the hart's registers and pc alone
-  pub moves_alone : (r : State) → IsLayoutStep c h r → (regs : List Value) × (pc : ℕ) × (replaced_step p c h r ≡ with_hart h (record (hart_in r.harts h) { regs = regs; pc = pc }) r)
+  -- what a step of the layout makes
+  pub led_is : (r : State) → IsLayoutStep c h r → replaced_step p c h r ≡ with_hart h (hart_led (read c.word (hart_in r.harts h).pc) (hart_in r.harts h)) r
   unfolding replaced_step
-  moves_alone r k =
+  led_is r k =
       let hart = hart_in r.harts h in
       let at = live_at r.harts h k.live in
       let l = leads p c image_kept code n h hart r at (c.point hart.pc) refl k.at in
@@ -162,7 +176,14 @@ module _ (p : Picture) (c : Code) (image_kept : image.IsKept p) (code : IsCodeOf
       let live : is_live (hart_in (slice_set r.harts h l.new) h).status ≡ true = ap (λ (x : Hart). is_live x.status) there ∙ ap is_live l.status ∙ k.live in
       let to : replaced_step p c h r ≡ with_hart h l.new r =
       stepped_to c.word (origin c) p h r k.going k.live ∙ ap settled l.step ∙ settled_live h (with_hart h l.new r) live in
-      (l.new.regs, l.new.pc, to ∙ ap (λ (x : Hart). with_hart h x r) l.alone)
+      to ∙ ap (λ (x : Hart). with_hart h x r) l.is
+
+  -- a step of the layout changes the hart's registers and pc alone
+  pub moves_alone : (r : State) → IsLayoutStep c h r → (regs : List Value) × (pc : ℕ) × (replaced_step p c h r ≡ with_hart h (record (hart_in r.harts h) { regs = regs; pc = pc }) r)
+  moves_alone r k =
+      let hart = hart_in r.harts h in
+      let new = hart_led (read c.word hart.pc) hart in
+      (new.regs, new.pc, led_is r k ∙ ap (λ (x : Hart). with_hart h x r) (led_alone (read c.word hart.pc) hart))
 
   -- after a step of the layout the hart stands at a place of a lesser rank
   less_after : (r : State) → IsLayoutStep c h r → rank c (hart_in (replaced_step p c h r).harts h).pc < rank c (hart_in r.harts h).pc

@@ -7,6 +7,7 @@ pub mod Held
 pub mod Leading
 pub mod LeftOver
 pub mod LinkAt
+pub mod Fetching
 pub mod LinksRise
 pub mod Lives
 pub mod Moving

@@ -23,6 +23,17 @@ sound_after w v h e s = rw e s
 pub layout_live : (h : ℕ) (w : Replaced) → is_layout (kind_of h w) ≡ true → is_live (hart_in w.machine.harts h).status ≡ true
 layout_live h w l = (layout_of (code_of w) h w.machine l).live
 
+-- ---- a step that isn't one of layouts alone is made, and one that is, left
+pub other_made : (h : ℕ) (w v : Replaced) (k : Stepped) → k ≡ kind_of h w → is_layout k ≡ false → v ≡ cond (is_layout (kind_of h w)) w (step_of h w) → v ≡ step_of h w
+other_made h w v k e f g = g ∙ ap (λ b. cond b w (step_of h w)) (sym (ap is_layout e) ∙ f)
+
+pub other_left : (h : ℕ) (w v : Replaced) (k : Stepped) → k ≡ kind_of h w → is_layout k ≡ true → v ≡ cond (is_layout (kind_of h w)) w (step_of h w) → v ≡ w
+other_left h w v k e f g = g ∙ ap (λ b. cond b w (step_of h w)) (sym (ap is_layout e) ∙ f)
+
+-- the next step is one of layouts alone
+pub next_layout : (h : ℕ) (w v : Replaced) (k : Stepped) → k ≡ kind_of h w → is_layout k ≡ true → v ≡ w → is_layout (kind_of h v) ≡ true
+next_layout h w v k e f g = ap (λ (x : Replaced). is_layout (kind_of h x)) g ∙ sym (ap is_layout e) ∙ f
+
 -- ---- up to a real step
 pub kind_stops : (n h : ℕ) (w : Replaced) (k : Stepped) → k ≡ kind_of h w → is_layout k ≡ false → k ≡ kind_until w.image (code_of w) (suc n) h w.machine
 unfolding kind_until

@@ -1,3 +1,4 @@
+pub mod Fetching
 pub mod Replacing
 pub mod Retiring
 pub mod Runs

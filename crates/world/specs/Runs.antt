@@ -2,13 +2,13 @@
 use Rattle.std.specs.Prelude.{◌≡◌, ℕ, zero, suc, Bool, true, false, List, [], ◌∷◌, ◌++◌, None, if◌then◌else◌}
 use Rattle.plans.specs.declared.plan.Moved.{Moved}
 use Rattle.plans.specs.Given.{plan_fault}
-use Rattle.link_tags.specs.declared.value.Value.{Value}
 use Rattle.machine.specs.Harts.{hart_in}
 use Rattle.machine.specs.Steps.{with_hart}
 use Rattle.sim_laws.specs.declared.stepped.Stepped.{Stepped}
 use Rattle.sim_laws.specs.declared.stepped.Stepped.TheVariants as kind
 use Rattle.sim_laws.specs.Steps.{is_layout, kind_until}
-use Rattle.world.specs.declared.counts.Counts.{Counts}
+use Rattle.world.specs.declared.code.Before.{Before}
+use Rattle.world.specs.Fetching.{led}
 use Rattle.world.specs.Worlds.{Replaced, code_of, kind_of, step_of}
 use Rattle.world.specs.Replacing.{Replaces}
 use Rattle.world.specs.Retiring.{Retires}
@@ -23,16 +23,12 @@ is_over kind.Real = false
 is_over kind.Layout = false
 is_over kind.Over = true
 
--- ---- a step of layouts alone changes the hart's registers and pc, and its count
-abbrev pub moved : ℕ → List Value → ℕ → Counts → Replaced → Replaced
-moved h regs pc counts w = record w { machine = with_hart h (record (hart_in w.machine.harts h) { regs = regs; pc = pc }) w.machine; counts = counts }
-
--- v is w but for these
-pub record IsMoved (h : ℕ) (w v : Replaced) : Type 0 where
-  pub regs : List Value
-  pub pc : ℕ
-  pub counts : Counts
-  pub is : v ≡ moved h regs pc counts w
+-- a step of layouts alone of hart h is taken back: one register, pc and the count are what they were
+abbrev pub taken_back : ℕ → Before → Replaced → Replaced
+taken_back h b w = record w {
+  machine = with_hart h (led b.led (hart_in w.machine.harts h)) w.machine;
+  counts = record w.counts { layout = b.layout };
+}
 
 -- ---- steps of hart h until one that is no step of a layout alone, at most n
 unfoldable pub until_real : ℕ → ℕ → Replaced → Replaced

@@ -1,86 +1,140 @@
-//! The words that are fetched, and a step on them.
+//! What a step fetches, and the step on it.
 
-ghost use Rattle.std.specs.Prelude.{◌≡◌, ◌<◌, IfOk, OnOk, OnErr, length, true, if◌then◌else◌};
-ghost use Rattle.image.specs.Texts.{word_at};
-ghost use Rattle.layout.specs.Points as points;
+ghost use Rattle.std.specs.Prelude.{◌≡◌, ◌<◌, Some, None, IfOk, OnOk, OnErr, length, true, false, if◌then◌else◌};
+ghost use Rattle.std.specs.Option.{option_map, option_and_then};
+ghost use Rattle.rv_isa.specs.Decoded.{decoded};
+ghost use Rattle.layout.specs.Points.{live_at};
+ghost use Rattle.layout.specs.Rows.{Renders};
 ghost use Rattle.machine.specs.Harts.{is_live, hart_in};
 ghost use Rattle.machine.specs.Steps.{can_step};
-ghost use Rattle.sim_laws.specs.Origins.{is_layout_step};
 ghost use Rattle.sim_laws.specs.Steps.{replaced_step, stepped, is_layout};
 ghost use Rattle.world.specs.Runs.{is_over};
 ghost use Rattle.world.specs.Worlds.{code_in};
-ghost use Rattle.image.specs.declared.ranges.TextRange.{TextRange as TextData};
-ghost use Rattle.std.specs.Prelude.{List};
+ghost use Rattle.world.specs.Fetching.{both, word_as, is_address, fetched_as, fetched_of, fetched_at, word_of, is_layout_fetch, led_by};
 
-use crate::points::{Points, is_in, is_moved, live_point, live_word};
+use crate::points::{Points, is_in, live_both};
 use image::picture::Image;
 use layout::layout::Layout;
 use layout::point::Point;
+use layout::targets::{made_by, target};
+use link_tags::value::Value;
 use machine::machine::Machine;
 use oc_base::fault::NoMemory;
 use patcher::text::TextNow;
+use rv_decode::decode;
+use rv_isa::fields::Reg;
+use rv_isa::instr::Instr;
 use sim_laws::stepped::Stepped;
 
-/// The word at an address now.
-fn word_in(image: &Image, text: &TextNow, lives: &[Layout], at: u64) -> Option<u32>
-    ensures { result ≡ (code_in image.now text.now lives.now).word at }
+/// What a step fetches.
+#[derive(Clone, Copy)]
+pub enum Fetched {
+    /// No word.
+    Nothing,
+    Word(u32),
+    /// A word on which the step is one of layouts alone.
+    Layout,
+}
+
+/// Whether an instruction is an AUIPC that writes a register.
+fn writes_address(i: &Instr) -> bool
+    ensures { result ≡ is_address (Some i.now) }
 {
-    if is_in(image.region(), at) {
-        live_word(lives, at)
-    } else {
-        text.word(at)
+    match *i {
+        Instr::Auipc { rd, .. } => rd.get() != 0,
+        _ => false,
     }
 }
 
-/// Whether a step at an address is one of layouts alone.
-#[inline(always)]
-#[tactic(auto, unfolding(sim_laws::specs::Origins::is_layout_step, layout::specs::Points::read), using(crate::proofs::Following::never_moved))]
-fn is_layout_step(image: &Image, lives: &[Layout], at: u64) -> bool
-    ensures { (text : List TextData) → result ≡ is_layout_step (code_in image.now text lives.now) at }
+/// Whether a word is one.
+fn is_address(word: u32) -> bool
+    ensures { result ≡ is_address (decoded word) }
 {
-    if !is_in(image.region(), at) {
+    let Some(i) = decode(word) else {
         return false;
-    }
-    match live_point(lives, at) {
-        Some(Point::Start(x)) => is_moved(at, x, image.word(x)),
-        Some(Point::Hop(_)) => true,
-        Some(Point::Mid(_)) => false,
-        None => false,
-    }
+    };
+    writes_address(&i)
 }
 
-/// What a step of hart `h` would be.
-#[tactic(auto, unfolding(sim_laws::specs::Steps::stepped), using(machine::proofs::HartLists::live_made))]
-pub fn kind_in(machine: &Machine, image: &Image, lives: &[Layout], h: u32) -> Stepped
-    ensures { (text : List TextData) → result ≡ stepped (code_in image.now text lives.now) h machine.now }
+/// What a word of a layout is fetched as. The original word isn't looked at: where a word of a layout is an AUIPC that writes a
+/// register, it is the first of the two for an AUIPC that was moved.
+fn fetched_as(word: u32, point: Point) -> Fetched
+    ensures { result ≡ fetched_as word point }
 {
-    if machine.outcome().is_some() {
-        return Stepped::Over;
+    match point {
+        Point::Start(_) if is_address(word) => Fetched::Layout,
+        Point::Start(_) => Fetched::Word(word),
+        Point::Hop(_) => Fetched::Layout,
+        Point::Mid(_) => Fetched::Word(word),
     }
-    if !machine.is_live(h) {
-        return Stepped::Real;
-    }
-    if is_layout_step(image, lives, machine.hart(h).pc) {
-        return Stepped::Layout;
-    }
-    Stepped::Real
 }
 
-/// Makes the step of a live hart of a run that goes on.
+/// What is fetched in the region.
+// kept out of the loops of steps, in which most words come from text
+#[inline(never)]
+fn live_fetched(lives: &[Layout], at: u64) -> Fetched
+    ensures { result ≡ fetched_of (option_map both (live_at lives.now at)) }
+{
+    match live_both(lives, at) {
+        Some((word, point)) => fetched_as(word, point),
+        None => Fetched::Nothing,
+    }
+}
+
+fn word_as(word: Option<u32>) -> Fetched
+    ensures { result ≡ word_as word }
+{
+    match word {
+        Some(word) => Fetched::Word(word),
+        None => Fetched::Nothing,
+    }
+}
+
+/// What is fetched at an address.
 #[inline(always)]
-#[tactic(auto, using(machine::proofs::HartLists::live_made))]
+#[tactic(auto, using(crate::proofs::Fetching::fetched_in_region, crate::proofs::Fetching::fetched_in_text))]
+fn fetch(image: &Image, text: &TextNow, lives: &[Layout], at: u64) -> Fetched
+    requires { Renders (code_in image.now text.now lives.now) }
+    ensures { result ≡ fetched_at (code_in image.now text.now lives.now) at }
+{
+    image.kept();
+    if is_in(image.region(), at) {
+        return live_fetched(lives, at);
+    }
+    word_as(text.word(at))
+}
+
+fn word_of(fetched: Fetched) -> Option<u32>
+    ensures { result ≡ word_of fetched }
+{
+    match fetched {
+        Fetched::Word(word) => Some(word),
+        Fetched::Nothing | Fetched::Layout => None,
+    }
+}
+
+fn is_layout_fetch(fetched: Fetched) -> bool
+    ensures { result ≡ is_layout_fetch fetched }
+{
+    matches!(fetched, Fetched::Layout)
+}
+
+/// Makes the step of a live hart of a run that goes on, on the word that was fetched for it.
+#[inline(always)]
 fn step_live(
     machine: &mut Machine,
     image: &Image,
     text: &TextNow,
     lives: &[Layout],
     h: u32,
+    word: Option<u32>,
 ) -> Result<(), NoMemory>
-    requires { can_step h machine.old ≡ true }
+    requires can { can_step h machine.old ≡ true }
+    requires word { word ≡ (code_in image.now text.now lives.now).word (hart_in machine.old.harts h).pc }
     ensures ok { OnOk result (machine.new ≡ replaced_step image.now (code_in image.now text.now lives.now) h machine.old) }
     ensures err { OnErr result (machine.new ≡ machine.old) }
 {
-    let word = word_in(image, text, lives, machine.hart(h).pc);
+    let _ = text;
     let points = Points {
         lives,
         region: image.region(),
@@ -89,27 +143,6 @@ fn step_live(
         return Err(NoMemory);
     };
     Ok(())
-}
-
-/// Makes the step of hart `h`.
-#[tactic(auto, unfolding(sim_laws::specs::Steps::replaced_step, machine::specs::Steps::step_with))]
-pub fn step_in(
-    machine: &mut Machine,
-    image: &Image,
-    text: &TextNow,
-    lives: &[Layout],
-    h: u32,
-) -> Result<(), NoMemory>
-    ensures ok { OnOk result (machine.new ≡ replaced_step image.now (code_in image.now text.now lives.now) h machine.old) }
-    ensures err { OnErr result (machine.new ≡ machine.old) }
-{
-    if machine.outcome().is_some() {
-        return Ok(());
-    }
-    if !machine.is_live(h) {
-        return Ok(());
-    }
-    step_live(machine, image, text, lives, h)
 }
 
 /// Makes the step of hart `h` where it isn't one of layouts alone, and says what it is.
@@ -122,6 +155,7 @@ pub fn other_step_in(
     lives: &[Layout],
     h: u32,
 ) -> Result<Stepped, NoMemory>
+    requires { Renders (code_in image.now text.now lives.now) }
     ensures kind { IfOk result (λ kind. kind ≡ stepped (code_in image.now text.now lives.now) h machine.old) }
     ensures step { OnOk result (machine.new ≡ (if is_layout (stepped (code_in image.now text.now lives.now) h machine.old) then machine.old else replaced_step image.now (code_in image.now text.now lives.now) h machine.old)) }
     ensures err { OnErr result (machine.new ≡ machine.old) }
@@ -132,13 +166,68 @@ pub fn other_step_in(
     if !machine.is_live(h) {
         return Ok(Stepped::Real);
     }
-    if is_layout_step(image, lives, machine.hart(h).pc) {
+    let fetched = fetch(image, text, lives, machine.hart(h).pc);
+    if is_layout_fetch(fetched) {
         return Ok(Stepped::Layout);
     }
-    let Ok(()) = step_live(machine, image, text, lives, h) else {
+    let Ok(()) = step_live(machine, image, text, lives, h, word_of(fetched)) else {
         return Err(NoMemory);
     };
     Ok(Stepped::Real)
+}
+
+/// What a step of layouts alone writes to a hart: one register and pc.
+#[derive(Clone, Copy)]
+pub struct Led {
+    pub rd: Reg,
+    pub value: Value,
+    pub pc: u64,
+}
+
+/// What stood before a step of layouts alone: what it writes, and the count of such steps.
+#[derive(Clone, Copy)]
+pub struct Before {
+    pub led: Led,
+    pub layout: u64,
+}
+
+/// No register, and this pc.
+fn led_to(pc: u64) -> Led
+    ensures { result ≡ led_by None pc }
+{
+    Led {
+        rd: Reg::new(0).unwrap(),
+        value: Value::plain(0),
+        pc,
+    }
+}
+
+/// What a step of layouts alone at `pc` writes, by its instruction: an AUIPC, or a JAL that keeps no link.
+fn led_on(i: &Instr, pc: u64) -> Led
+    ensures { result ≡ led_by (Some i.now) pc }
+{
+    match *i {
+        Instr::Auipc { rd, imm } => Led {
+            rd,
+            value: Value::plain(made_by(pc, imm.get() as u64)),
+            pc: pc.wrapping_add(4),
+        },
+        Instr::Jal { off, .. } => led_to(target(pc, off.get())),
+        _ => led_to(pc),
+    }
+}
+
+/// What it writes, by its word.
+pub fn led_by(word: Option<u32>, pc: u64) -> Led
+    ensures { result ≡ led_by (option_and_then decoded word) pc }
+{
+    let Some(word) = word else {
+        return led_to(pc);
+    };
+    let Some(i) = decode(word) else {
+        return led_to(pc);
+    };
+    led_on(&i, pc)
 }
 
 /// Whether a step was one of layouts alone.

@@ -8,23 +8,23 @@ ghost use Rattle.machine.specs.Start.{start_of};
 ghost use Rattle.machine.specs.States.{State};
 ghost use Rattle.machine.specs.Steps.{original_step, original_run};
 ghost use Rattle.plans.specs.Given.{plan_fault};
-ghost use Rattle.sim_laws.specs.Steps.{is_layout, original_after};
-ghost use Rattle.world.specs.Worlds.{IsSound, Related, code_of, started, kind_of, step_of, more};
-ghost use Rattle.world.specs.Runs.{moved, IsMoved, real_step_of, real_kind_of, real_steps_of};
+ghost use Rattle.sim_laws.specs.Steps.{is_layout, kind_until, original_after};
+ghost use Rattle.world.specs.Worlds.{IsSound, Related, started, code_of, kind_of, step_of, more};
+ghost use Rattle.world.specs.Runs.{until_real, taken_back, real_step_of, real_kind_of, real_steps_of};
 ghost use Rattle.world.specs.Replacing.{Refuses, IsPlacement, IsReplaced, slots_sent, refused_as, RefusedBy, Attempts};
 ghost use Rattle.world.specs.Retiring.{held_by, AreUnreferenced, without, freed, RetiresAs, LeadsToCode};
 ghost use Rattle.world.specs.Told.{retired_in, facts_of};
 
-use crate::code::{is_layout, is_over, kind_in, other_step_in, step_in};
+use crate::code::{Before, Led, is_layout, is_over, led_by, other_step_in};
 use crate::counts::{Counts, more};
 use crate::giving_up::{give_up, links_held, pcs_of, text_aims};
 use crate::live::{add, aim};
 use crate::place::{Placement, is_no_memory, place};
+use crate::points::live_word;
 use crate::slots::send;
 use crate::told::{changed_in, hart_facts, layout_facts, slots_in};
 use image::picture::Image;
 use layout::layout::Layout;
-use link_tags::value::Value;
 use machine::machine::Machine;
 use machine::outcome::Outcome;
 use oc_base::fault::NoMemory;
@@ -178,25 +178,69 @@ impl World {
         self.lives.len()
     }
 
-    /// What a step of hart `h` would be.
-    fn kind(&self, h: u32) -> Stepped
-        ensures { result ≡ kind_of h self.now }
-    {
-        kind_in(&self.machine, &self.image, &self.lives, h)
-    }
-
-    /// Makes the step of hart `h`, which is of this kind.
+    /// The step of hart `h` where it isn't one of layouts alone, and what it is. After want of memory all is as before.
+    #[inline(always)]
     #[tactic(auto, unfolding(crate::specs::Worlds::step_of))]
-    fn make_step(&mut self, h: u32, kind: Stepped) -> Result<(), NoMemory>
-        requires { kind ≡ kind_of h self.old }
-        ensures ok { OnOk result (self.new ≡ step_of h self.old) }
+    fn make_other_step(&mut self, h: u32) -> Result<Stepped, NoMemory>
+        ensures kind { IfOk result (λ kind. kind ≡ kind_of h self.old) }
+        ensures step { OnOk result (self.new ≡ (if is_layout (kind_of h self.old) then self.old else step_of h self.old)) }
         ensures err { OnErr result (self.new ≡ self.old) }
     {
-        let Ok(()) = step_in(&mut self.machine, &self.image, &self.text, &self.lives, h) else {
+        self.kept();
+        let Ok(kind) = other_step_in(&mut self.machine, &self.image, &self.text, &self.lives, h)
+        else {
             return Err(NoMemory);
         };
+        if is_layout(kind) {
+            return Ok(kind);
+        }
         self.counts.count(kind);
-        Ok(())
+        Ok(kind)
+    }
+
+    /// The same, out of the loops of steps.
+    #[inline(never)]
+    fn other_step(&mut self, h: u32) -> Result<Stepped, NoMemory>
+        ensures kind { IfOk result (λ kind. kind ≡ kind_of h self.old) }
+        ensures step { OnOk result (self.new ≡ (if is_layout (kind_of h self.old) then self.old else step_of h self.old)) }
+        ensures err { OnErr result (self.new ≡ self.old) }
+    {
+        self.make_other_step(h)
+    }
+
+    /// Makes the step of hart `h`, one of layouts alone, and gives what takes it back. It takes no memory.
+    #[inline(always)]
+    #[tactic(auto, unfolding(crate::specs::Worlds::step_of))]
+    fn layout_step(&mut self, h: u32) -> Before
+        requires { is_layout (kind_of h self.old) ≡ true }
+        ensures step { self.new ≡ step_of h self.old }
+        ensures back { taken_back h result self.new ≡ self.old }
+    {
+        self.kept();
+        let hart = self.machine.hart(h);
+        let pc = hart.pc;
+        let led = led_by(live_word(&self.lives, pc), pc);
+        let before = Before {
+            led: Led {
+                rd: led.rd,
+                value: hart.reg(led.rd),
+                pc,
+            },
+            layout: self.counts.layout,
+        };
+        self.machine.lead(h, led.rd, led.value, led.pc);
+        self.counts.count(Stepped::Layout);
+        before
+    }
+
+    /// Takes a step of layouts alone back.
+    fn take_back(&mut self, h: u32, before: Before)
+        requires { h < length self.old.machine.harts }
+        ensures { self.new ≡ taken_back h before self.old }
+    {
+        let led = before.led;
+        self.machine.lead(h, led.rd, led.value, led.pc);
+        self.counts.layout = before.layout;
     }
 
     /// One step of hart `h`, and what it was. After want of memory all is as before.
@@ -205,10 +249,12 @@ impl World {
         ensures step { OnOk result (self.new ≡ step_of h self.old) }
         ensures err { OnErr result (self.new ≡ self.old) }
     {
-        let kind = self.kind(h);
-        let Ok(()) = self.make_step(h, kind) else {
+        let Ok(kind) = self.other_step(h) else {
             return Err(NoMemory);
         };
+        if is_layout(kind) {
+            self.layout_step(h);
+        }
         Ok(kind)
     }
 
@@ -230,33 +276,28 @@ impl World {
         Ok(kind)
     }
 
-    /// Steps of hart `h` up to one that isn't one of layouts alone, and what that is. After want of memory some of the layouts' steps
-    /// stand.
-    fn steps_to_real(&mut self, h: u32) -> Result<Stepped, NoMemory>
-        ensures kind { IfOk result (λ kind. kind ≡ real_kind_of h self.old) }
-        ensures step { OnOk result (self.new ≡ real_step_of h self.old) }
-        ensures err { OnErr result (IsMoved h self.old self.new) }
+    /// Steps of hart `h` up to one that isn't one of layouts alone, two at most, and what the last is. After want of memory all is as
+    /// before.
+    fn second_step(&mut self, h: u32) -> Result<Stepped, NoMemory>
+        ensures kind { IfOk result (λ kind. kind ≡ kind_until self.old.image (code_of self.old) 2 h self.old.machine) }
+        ensures step { OnOk result (self.new ≡ until_real 2 h self.old) }
+        ensures err { OnErr result (self.new ≡ self.old) }
     {
-        self.kept();
-        let Ok(first) = self.one_step(h) else {
-            return Err(NoMemory);
-        };
-        if !is_layout(first) {
-            return Ok(first);
-        }
-        let Ok(second) = self.one_step(h) else {
+        let Ok(second) = self.other_step(h) else {
             return Err(NoMemory);
         };
         if !is_layout(second) {
             return Ok(second);
         }
+        let before = self.layout_step(h);
         let Ok(third) = self.one_step(h) else {
+            self.take_back(h, before);
             return Err(NoMemory);
         };
         Ok(third)
     }
 
-    /// The same where a step of layouts alone comes first. After want of memory all is as before.
+    /// The same where a step of layouts alone comes first, three at most.
     #[inline(never)]
     fn past_layout(&mut self, h: u32) -> Result<Stepped, NoMemory>
         requires { is_layout (kind_of h self.old) ≡ true }
@@ -264,51 +305,11 @@ impl World {
         ensures step { OnOk result (self.new ≡ real_step_of h self.old) }
         ensures err { OnErr result (self.new ≡ self.old) }
     {
-        let (regs, pc) = self.place(h);
-        let counts = self.counts;
-        let Ok(kind) = self.steps_to_real(h) else {
-            self.put_back(h, regs, pc, counts);
+        let before = self.layout_step(h);
+        let Ok(kind) = self.second_step(h) else {
+            self.take_back(h, before);
             return Err(NoMemory);
         };
-        Ok(kind)
-    }
-
-    /// The registers and the pc of a live hart.
-    #[tactic(auto, using(machine::proofs::HartLists::live_made))]
-    fn place(&self, h: u32) -> ([Value; 32], u64)
-        requires { is_live (hart_in self.now.machine.harts h).status ≡ true }
-        ensures regs { result.0 ≡ (hart_in self.now.machine.harts h).regs }
-        ensures pc { result.1 ≡ (hart_in self.now.machine.harts h).pc }
-    {
-        let hart = self.machine.hart(h);
-        (hart.regs, hart.pc)
-    }
-
-    /// Gives a hart and the counts what they were.
-    fn put_back(&mut self, h: u32, regs: [Value; 32], pc: u64, counts: Counts)
-        requires { h < length self.old.machine.harts }
-        ensures { self.new ≡ moved h regs pc counts self.old }
-    {
-        self.machine.set_hart(h, regs, pc);
-        self.counts = counts;
-    }
-
-    /// The step of hart `h` where it isn't one of layouts alone, and what it is. After want of memory all is as before.
-    #[inline(always)]
-    #[tactic(auto, unfolding(crate::specs::Worlds::step_of))]
-    fn make_other_step(&mut self, h: u32) -> Result<Stepped, NoMemory>
-        ensures kind { IfOk result (λ kind. kind ≡ kind_of h self.old) }
-        ensures step { OnOk result (self.new ≡ (if is_layout (kind_of h self.old) then self.old else step_of h self.old)) }
-        ensures err { OnErr result (self.new ≡ self.old) }
-    {
-        let Ok(kind) = other_step_in(&mut self.machine, &self.image, &self.text, &self.lives, h)
-        else {
-            return Err(NoMemory);
-        };
-        if is_layout(kind) {
-            return Ok(kind);
-        }
-        self.counts.count(kind);
         Ok(kind)
     }
 

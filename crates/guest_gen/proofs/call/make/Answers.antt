@@ -1,14 +1,15 @@
-use Rattle.guest_gen.proofs.OneDecision.{one_decision}
-use Rattle.guest_gen.proofs.Decided.{asked_all}
-use Rattle.guest_gen.proofs.Ended.{answer_asks}
+use Rattle.std.proofs.Common.{refl}
+use Rattle.top_call.specs.Outside.{no_device, with_files, with_out, with_err}
+use Rattle.top_call.proofs.Called.{delivered}
+use Rattle.guest_gen.specs.Decision.{make, reading_of}
+use Rattle.guest_gen.proofs.Promised.{promised, out_kept}
 use Rattle.guest_gen.proofs.call.make.Goals as goal
 
-pub returns-clause-one : goal.returns-clause-one
-returns-clause-one g c = one_decision _
+pub returns-clause-promise : goal.returns-clause-promise
+returns-clause-promise g c =
+    promised _ _ _ _ refl (delivered make (reading_of _) _ (with_files g.F.Files c.decide-decision.new.files (with_out g.O.Sink c.args.out.now (with_err g.E.Sink c.args.err.now no_device))) _ c.decide-decision.result _
+    (c.decide-decision.ensures (with_out g.O.Sink c.args.out.now (with_err g.E.Sink c.args.err.now no_device)))
+    (rw (c.made.ensures) (c.deliver.ensures.ends no_device)))
 
-pub returns-clause-asked : goal.returns-clause-asked
-returns-clause-asked g c =
-    answer_asks _ _ _ _ _ _ _ c.decide-decision.result _ _ _ _ _ _ c.decide-decision.ensures.why
-    (asked_all g.F.Files.asked _ _ c.decide-decision.new.files c.deliver-what.new.files c.decide-decision.result c.deliver-what.result
-    c.decide-decision.ensures.formed c.decide-decision.ensures.asked c.deliver-what.ensures.asked c.deliver-what.ensures.kept)
-    c.deliver-what.ensures.ends
+pub returns-clause-out : goal.returns-clause-out
+returns-clause-out g c = out_kept _ _ _ _ _ c.decide-decision.result (c.decide-decision.ensures no_device) c.deliver.ensures.quiet c.deliver.ensures.silent

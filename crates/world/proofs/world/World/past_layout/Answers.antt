@@ -1,18 +1,16 @@
-use Rattle.std.proofs.Common.{◌<◌, sym, ap, ◌∙◌, subst}
+use Rattle.std.proofs.Common.{◌∙◌, ◌<◌, length, sym, subst}
 use Rattle.world.specs.Worlds.{Replaced}
-use Rattle.world.proofs.Moving.{moved_length, moved_back, layout_made}
-use Rattle.world.proofs.Stepping.{layout_live}
+use Rattle.world.proofs.Moving.{layout_made, taken_made}
+use Rattle.world.proofs.Stepping.{kind_goes_on, step_goes_on}
 use Rattle.world.proofs.world.World.past_layout.Goals as goal
 
-pub place-pc-requires : goal.place-pc-requires
-place-pc-requires c = layout_live c.args.h c.args.self.now c.requires
+pub take_back-requires : goal.take_back-requires
+take_back-requires c =
+    subst (λ (x : Replaced). c.args.h < length x.machine.harts) (sym c.in_default.ensures.err)
+    (taken_made c.args.h c.args.h c.args.self.now c.layout_step-before.new.self c.layout_step-before.result c.layout_step-before.ensures.back (layout_made c.args.h c.args.self.now c.requires))
 
-pub put_back-requires : goal.put_back-requires
-put_back-requires c =
-    subst (λ i. c.args.h < i) (sym (moved_length c.args.h c.args.self.now c.steps_to_real.new.self c.in_default.ensures.err)) (layout_made c.args.h c.args.self.now c.requires)
+pub returns-clause-kind : goal.returns-clause-kind
+returns-clause-kind c = c.in-Ok.ensures.kind ∙ kind_goes_on 2 c.args.h c.args.self.now c.layout_step-before.new.self c.layout_step-before.ensures.step c.requires
 
-pub returns-in_default-clause-err : goal.returns-in_default-clause-err
-returns-in_default-clause-err c =
-    c.put_back.ensures
-    ∙ moved_back c.args.h c.args.self.now c.steps_to_real.new.self c.place-pc.result.0 c.place-pc.result.1 c.self.inside.counts c.in_default.ensures.err
-    (layout_made c.args.h c.args.self.now c.requires) c.place-pc.ensures.regs c.place-pc.ensures.pc (ap (λ (x : Replaced). x.counts) c.self.view_is)
+pub returns-clause-step : goal.returns-clause-step
+returns-clause-step c = c.in-Ok.ensures.step ∙ step_goes_on 2 c.args.h c.args.self.now c.layout_step-before.new.self c.layout_step-before.ensures.step c.requires

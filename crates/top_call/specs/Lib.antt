@@ -1,0 +1,4 @@
+pub mod Call
+pub mod Outside
+pub mod Reading
+pub mod Writing
