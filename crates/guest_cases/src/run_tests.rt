@@ -183,6 +183,8 @@ fn first_misreported(alloc: Global, rows: &str) -> Result<String, Fail> {
 // What a row shows, its guest, more words for the call, its script before the `end`, and what its run comes to: status, report, last
 // line.
 const MOVED: &str = "\
+two layouts: exit | replace 0:0/replace 0:0/till 100 = 0|real 2 layout 0/snaps 0 attempts 2 done 2 refused 0 retired 0/sites 0 slots 0/layout 1 0x12000 3/layout 2 0x1200c 3/hart 0 ended/|ocolos: exit 0/
+two layouts, both given up: exit | replace 0:0/replace 0:0/retire/till 100 = 0|real 2 layout 0/snaps 0 attempts 2 done 2 refused 0 retired 2/sites 0 slots 0/hart 0 ended/|ocolos: exit 0/
 three blocks turned round: countdown | real 0 4/replace 1:2 1 0/till 100 = 28|real 20 layout 3/snaps 0 attempts 1 done 1 refused 0 retired 0/sites 2 slots 0/layout 1 0x12000 9/hart 0 ended/|ocolos: exit 28/
 stands between two words of one: countdown | real 0 4/replace 1:2 1 0/real 0 11/steps 0 2 = 115|real 15 layout 3/snaps 0 attempts 1 done 1 refused 0 retired 0/sites 2 slots 0/layout 1 0x12000 9/hart 0 live 0x1001c 0x12004/|ocolos: unfinished/
 calls in the last word: last call | replace 2:0; 0:0/till 10 = 118|real 4 layout 1/snaps 0 attempts 1 done 1 refused 0 retired 0/sites 2 slots 0/layout 1 0x12000 3/hart 0 live 0x1000c 0x1000c/|ocolos: trap 1 at 0x1000c value 0x1000c/
@@ -210,8 +212,7 @@ fn a_guest_whose_code_moves_ends_as_before(rt: HostRuntime) -> Result<(), Fail> 
 const SCRIPT_FAULTS: &str = "\
 a function past the last: exit | replace 9:0 = 124||ocolos: script line 1 fault 3/
 another order: exit | replace 0:1 = 124||ocolos: script line 1 fault 4/
-no space behind the semicolon: exit | replace 0:0;1:0 = 124||ocolos: script line 1 fault 1/
-a second plan: exit | replace 0:0/replace 0:0 = 124||ocolos: script line 2 fault 1/";
+no space behind the semicolon: exit | replace 0:0;1:0 = 124||ocolos: script line 1 fault 1/";
 
 #[test]
 fn a_plan_is_one_of_the_guest(rt: HostRuntime) -> Result<(), Fail> {

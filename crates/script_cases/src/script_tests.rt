@@ -1,5 +1,5 @@
 //! Scripts with what they are read as. What is wanted was told by an independent implementation, but for what this project alone has:
-//! commands that are to come, two spaces and `/` in a plan, and a second plan.
+//! commands that are to come, and two spaces and `/` in a plan.
 
 use cases::images::image_of;
 use cases::orders::plan_text;
@@ -28,7 +28,12 @@ till 5|#end| => line 3 fault 5
 go| => line 1 fault 1
 End| => line 1 fault 1
 snap|end| => line 1 fault 1
-retire|end| => line 1 fault 1
+retire|end| => retire|end|
+retire|till 1|retire|end => retire|till 1|retire|end|
+retire 0|end => line 1 fault 1
+retire |end => line 1 fault 1
+Retire|end => line 1 fault 1
+end|retire => line 2 fault 6
 till|end => line 1 fault 1
 till 5 6|end => line 1 fault 1
 till  5|end => line 1 fault 1
@@ -150,9 +155,9 @@ end|replace 0:x| => line 2 fault 2
 end|replace| => line 2 fault 1
 till 2000000000|replace 0:0|till 1|end => line 3 fault 7
 till 2000000001|replace 0:|end => line 1 fault 7
-replace 0:0|replace 0:0|end => line 2 fault 1
-replace 0:0|till 1|replace 1:2 1 0|end => line 3 fault 1
-replace 0:0|end|replace 0:0| => line 3 fault 1
+replace 0:0|replace 0:0|end => replace 0:0|replace 0:0|end|
+replace 0:0|till 1|replace 1:2 1 0|retire|end => replace 0:0|till 1|replace 1:2 1 0|retire|end|
+replace 0:0|end|replace 0:0| => line 3 fault 6
 replace 0:0|replace 0:x|end => line 2 fault 2
 replace 0:0|replace 2:0|end => line 2 fault 3
 replace 0:0|go|replace 0:0|end => line 2 fault 1
@@ -228,6 +233,7 @@ fn event_text(alloc: Global, event: &Event) -> Result<String, AllocError> {
         Event::Real { h, n } => format!(in alloc; "{n} real steps of {h}"),
         Event::Till { n } => format!(in alloc; "{n} turns"),
         Event::Given(plan) => plan_text(alloc, plan),
+        Event::Retire => String::from_str(alloc, "retirement"),
     }
 }
 
@@ -250,10 +256,10 @@ fn each_command_is_its_event(rt: HostRuntime) -> Result<(), Fail> {
     assert_eq!(rt;
         events_text(
             rt.alloc(),
-            "steps 1 2|real 3 4|till 5|replace 0:0; 1:2 0 1|end|"
+            "steps 1 2|real 3 4|till 5|replace 0:0; 1:2 0 1|retire|end|"
         )?
         .as_str(),
-        "2 steps of 1, 4 real steps of 3, 5 turns, 0:0; 1:2 0 1, "
+        "2 steps of 1, 4 real steps of 3, 5 turns, 0:0; 1:2 0 1, retirement, "
     );
     Ok(())
 }
