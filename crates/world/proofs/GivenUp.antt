@@ -181,7 +181,7 @@ module _ (p : Picture) (text : List TextRange) (lives : List Laid) (gone : List 
           let x = home_is a base k in
           let y = home_is b base (sym e ∙ k) in
           let left = same_test (is_some ((code_in p text (without gone lives)).home a)) (is_some ((code_in p text (without gone lives)).home b))
-              (left_as a b base x y) (left_as b a base y x) in
+          (left_as a b base x y) (left_as b a base y x) in
           λ i. is_some (e i) && not (left i)
 
   pub gives_up : GivesUp gone_at (code_in p text lives) (code_in p text (without gone lives))
@@ -214,10 +214,10 @@ module _ (p : Picture) (text : List TextRange) (lives : List Laid) (gone : List 
             is = x.is;
             stood = x.stood;
             lost = λ n. (
-              let g = still a x.is x.stood n in
-              let f = ap (λ (o : Option ℕ). not (is_some o)) (home_some (without gone lives) a g.0 x.inside g.1) in
-              let q = sym f ∙ e in
-              absurd (cc));
+                let g = still a x.is x.stood n in
+                let f = ap (λ (o : Option ℕ). not (is_some o)) (home_some (without gone lives) a g.0 x.inside g.1) in
+                let q = sym f ∙ e in
+                absurd (cc));
           }
 
   pub not_lost : (a : ℕ) (h : Here) (s : Stands lives a h) → in_range p.region a ≡ true → gone_at a ≡ false → Contains gone s.place → ⊥

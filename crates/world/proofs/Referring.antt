@@ -155,7 +155,7 @@ module _ (p : Picture) (text : List TextRange) (lives : List Laid) (gone : List 
               (aim_here a a 0 rd off p.sites s.0 r w s.1 (omega (arith, is, same)))))
           by_case (in_layout h s r k is) =
               let named = ((names a h s).sites a g.0).0
-                  (ap (called_at (site_of p)) ((here_back s.layout a h s.here).1 ∙ ap Some is) ∙ g.1) in
+              (ap (called_at (site_of p)) ((here_back s.layout a h s.here).1 ∙ ap Some is) ∙ g.1) in
               inside_clear a (target a off) h s r e
               (aim_there a g.0 rd off h s r k w (Contains-append_left s.layout.sites s.layout.pairs (record { at = a; func = g.0 }) named))
 
@@ -175,7 +175,7 @@ module _ (p : Picture) (text : List TextRange) (lives : List Laid) (gone : List 
               (aim_here a a 4 rd off p.pairs s.0 r w s.1 (omega (arith, is, same)))))
           by_case (in_layout h s r k is) =
               let named = ((names a h s).pairs a g.0).0
-                  (ap (called_at (second_of p)) ((here_back s.layout a h s.here).1 ∙ ap Some is) ∙ g.1) in
+              (ap (called_at (second_of p)) ((here_back s.layout a h s.here).1 ∙ ap Some is) ∙ g.1) in
               inside_clear a (target a off) h s r e
               (aim_there a g.0 rd off h s r k w (Contains-append_right s.layout.sites s.layout.pairs (record { at = a; func = g.0 }) named))
 

@@ -75,9 +75,9 @@ apart_others lives k l e apart i d lt =
     let size = length-remove lives k there in
     elim (cases_lt i k) [
       | inl below ↦ subst (λ (m : Laid). LieApart l m) (sym (get_or-remove_below lives k d i below there))
-        (apart_turn (get_or lives i d) l (subst (λ (m : Laid). LieApart (get_or lives i d) m) (get_or_from_slice_get lives k l d e) (apart i k d below there)))
+          (apart_turn (get_or lives i d) l (subst (λ (m : Laid). LieApart (get_or lives i d) m) (get_or_from_slice_get lives k l d e) (apart i k d below there)))
       | inr above ↦ subst (λ (m : Laid). LieApart l m) (sym (get_or-remove_above lives k d i above there))
-        (subst (λ (m : Laid). LieApart m (get_or lives (i + 1) d)) (get_or_from_slice_get lives k l d e) (apart k (i + 1) d (omega (arith, above)) (omega (arith, lt, size))))
+          (subst (λ (m : Laid). LieApart m (get_or lives (i + 1) d)) (get_or_from_slice_get lives k l d e) (apart k (i + 1) d (omega (arith, above)) (omega (arith, lt, size))))
     ]
 
 pub covers_parts : (a : ℕ) (l : Laid) → covers a l ≡ true → (l.base ≤ a) × (a < l.base + 4 * length l.words)
@@ -143,9 +143,9 @@ module _ (r : Range) (lives : List Laid) (free : List Range) (k : ℕ) (l : Laid
       there_is : is_free (given (range_of l) free) a ≡ true → (in_range r a && not (list_any (covers a) (remove lives k))) ≡ true
       there_is f = elim (addresses.0 f) [
         | inl g ↦ (
-          let q = parts (in_range r a) (covers a l) (list_any (covers a) (remove lives k))
-              (ap (λ b. in_range r a && not b) (sym (any_more (covers a) lives k l e)) ∙ sym (s.rest a) ∙ g) in
-          rw (q.0, q.1) refl)
+            let q = parts (in_range r a) (covers a l) (list_any (covers a) (remove lives k))
+            (ap (λ b. in_range r a && not b) (sym (any_more (covers a) lives k l e)) ∙ sym (s.rest a) ∙ g) in
+            rw (q.0, q.1) refl)
         | inr c ↦ rw (inside c, others_free a l (remove lives k) (covers_is a l c.0 c.1) (apart_others lives k l e s.apart)) refl
       ]
 
@@ -206,5 +206,5 @@ few r [] free s = omega arith
 few r (l ∷ ls) free s =
     let size = length-map (l ∷ ls) base_of in
     let most = length-le_from_distinct_below (map base_of (l ∷ ls)) 0x08000000
-        (IsDistinct-from_AllPairs (λ a b. (eqb-true a b, eq-eqb a b)) (map base_of (l ∷ ls)) (bases_differ r (l ∷ ls) free l s)) (bases_low r (l ∷ ls) free l s) in
+    (IsDistinct-from_AllPairs (λ a b. (eqb-true a b, eq-eqb a b)) (map base_of (l ∷ ls)) (bases_differ r (l ∷ ls) free l s)) (bases_low r (l ∷ ls) free l s) in
     omega (arith, size, most)

@@ -122,12 +122,7 @@ fn jump_of(text: &TextNow, at: u64) -> Option<u64>
 }
 
 /// Adds the places to which these calls go, whose words stand this far past their places.
-fn add_aims(
-    found: &mut Vec<u64>,
-    text: &TextNow,
-    calls: &[Aim],
-    past: u64,
-) -> Result<(), NoMemory>
+fn add_aims(found: &mut Vec<u64>, text: &TextNow, calls: &[Aim], past: u64) -> Result<(), NoMemory>
     requires { All (λ s. s.at + past < 2 ^ 64) calls.now }
     ensures { OnOk result (found.new.items ≡ found.old.items ++ filter_map (text_aim text.now past) calls.now) }
 {
@@ -151,12 +146,7 @@ pub fn text_aims(alloc: Global, image: &Image, text: &TextNow) -> Result<Vec<u64
 }
 
 /// Gives up the layout at a position, with its number. Its range is free then. It takes no memory.
-fn give_up_one(
-    lives: &mut Vec<Layout>,
-    numbers: &mut Vec<u64>,
-    region: &mut Region,
-    k: usize,
-)
+fn give_up_one(lives: &mut Vec<Layout>, numbers: &mut Vec<u64>, region: &mut Region, k: usize)
     requires lives { k < length lives.old.items }
     requires numbers { k < length numbers.old.items }
     requires spare { 0 < region.old.spare }
@@ -176,12 +166,7 @@ fn give_up_one(
 }
 
 /// Gives up the layouts at these positions, the last one first. It takes no memory.
-pub fn give_up(
-    lives: &mut Vec<Layout>,
-    numbers: &mut Vec<u64>,
-    region: &mut Region,
-    gone: &[u32],
-)
+pub fn give_up(lives: &mut Vec<Layout>, numbers: &mut Vec<u64>, region: &mut Region, gone: &[u32])
     requires rises { AllPairs (λ j k. j < k) gone.now }
     requires within { All (λ k. k < length lives.old.items) gone.now }
     requires numbers { length numbers.old.items ≡ length lives.old.items }

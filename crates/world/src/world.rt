@@ -494,20 +494,15 @@ impl World {
     fn give_up(&mut self, gone: &[u32]) -> Result<(), NoMemory>
         requires { AreUnreferenced self.old.lives (held_by self.old) gone.now }
         ensures ok { OnOk result (self.new ≡ record self.old {
-            lives = without gone.now self.old.lives;
-            numbers = without gone.now self.old.numbers;
-            free = freed gone.now self.old.lives self.old.free;
+          lives = without gone.now self.old.lives;
+          numbers = without gone.now self.old.numbers;
+          free = freed gone.now self.old.lives self.old.free;
         }) }
         ensures err { OnErr result (self.new ≡ self.old) }
     {
         self.kept();
         self.region.reserve(gone.len())?;
-        give_up(
-            &mut self.lives,
-            &mut self.numbers,
-            &mut self.region,
-            gone,
-        );
+        give_up(&mut self.lives, &mut self.numbers, &mut self.region, gone);
         Ok(())
     }
 

@@ -15,9 +15,9 @@ give_up_one-requires-clause-lives c =
 pub give_up_one-requires-clause-numbers : goal.give_up_one-requires-clause-numbers
 give_up_one-requires-clause-numbers c =
     let there = next_there c.args.region.now.all c.args.lives.now.items c.args.region.now.free c.args.gone.now (climbs c.args.gone.now c.requires.rises) c.requires.within c.loop-i.i 0
-        c.loop-i-test.true c.loop-i.invariant.within in
+    c.loop-i-test.true c.loop-i.invariant.within in
     let same = next_length c.args.region.now.all c.args.lives.now.items c.args.region.now.free c.args.gone.now (climbs c.args.gone.now c.requires.rises) c.requires.within c.loop-i.i 0
-        c.loop-i-test.true c.loop-i.invariant.within c.args.numbers.now.items c.requires.numbers in
+    c.loop-i-test.true c.loop-i.invariant.within c.args.numbers.now.items c.requires.numbers in
     rw c.loop-i.invariant.numbers (subst (λ (n : ℕ). slice_index_or c.args.gone.now (c.loop-i.i - 1) 0 < n) (sym same) there)
 
 pub give_up_one-requires-clause-spread : goal.give_up_one-requires-clause-spread
@@ -34,11 +34,11 @@ loop-i-preserved c =
     let spare = i.spare in
     let one = c.give_up_one.ensures.spare in
     let lives = next_without c.args.region.now.all c.args.lives.now.items c.args.region.now.free c.args.gone.now (climbs c.args.gone.now c.requires.rises) c.requires.within c.loop-i.i 0
-        c.loop-i-test.true i.within c.args.lives.now.items in
+    c.loop-i-test.true i.within c.args.lives.now.items in
     let numbers = next_without c.args.region.now.all c.args.lives.now.items c.args.region.now.free c.args.gone.now (climbs c.args.gone.now c.requires.rises) c.requires.within c.loop-i.i 0
-        c.loop-i-test.true i.within c.args.numbers.now.items in
+    c.loop-i-test.true i.within c.args.numbers.now.items in
     let free = next_freed c.args.region.now.all c.args.lives.now.items c.args.region.now.free c.args.gone.now (climbs c.args.gone.now c.requires.rises) c.requires.within c.loop-i.i 0
-        c.loop-i-test.true i.within in
+    c.loop-i-test.true i.within in
     record {
       within = omega (arith, within);
       lives = c.give_up_one.ensures.lives ∙ ap (λ xs. remove xs k) i.lives ∙ lives;
