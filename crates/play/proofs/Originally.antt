@@ -1,5 +1,5 @@
 -- A run whose code is moved is one of the original machine.
-use Rattle.std.proofs.Common.{◌≡◌, ℕ, zero, suc, Bool, true, false, not, List, [], ◌∷◌, ◌++◌, length, take, drop, replicate, refl, sym, ap, subst, ◌∙◌, arith}
+use Rattle.std.proofs.Common.{◌≡◌, ℕ, zero, suc, ◌+◌, Bool, true, false, not, List, [], ◌∷◌, ◌++◌, length, take, drop, replicate, refl, sym, ap, subst, ◌∙◌, arith}
 use Rattle.std.specs.Prelude.{Option, Some, None, ◌==◌, ◌&&◌, is_some, slice_get, sum_by, if◌then◌else◌}
 use Rattle.std.specs.List.{range_with_len}
 use Rattle.std.proofs.lemmas.List.Sums.{sum_by-cons}
@@ -27,8 +27,8 @@ use Rattle.sim_laws.proofs.HartLists.{no_left, no_right}
 use Rattle.world.specs.Worlds.{Replaced, kind_of, step_of, code_of}
 use Rattle.world.specs.Retiring.{without, Retires}
 use Rattle.world.specs.Retiring as retiring
-use Rattle.world.specs.Runs.{Atom, a_step, a_real_step, a_replacement, a_retirement, IsRun, of_real, real_kind_of, real_step_of, until_real, stretch}
-use Rattle.play.specs.Events.{harts_in, stretched, turns, atoms_of, Plays}
+use Rattle.world.specs.Runs.{Atom, a_step, a_real_step, a_replacement, a_retirement, IsRun, of_real, real_kind_of, real_step_of, until_real}
+use Rattle.play.specs.Events.{stretch, harts_in, stretched, turns, atoms_of, Plays}
 use Rattle.play.specs.Schedule as original
 use Rattle.play.specs.Ready.{CanObey, AreReady}
 use Rattle.play.proofs.Laws.{Stands, Laws}

@@ -13,8 +13,8 @@ use Rattle.world.specs.Worlds.{Replaced, kind_of, step_of, started}
 use Rattle.world.specs.Replacing.{Replaces, over, done, refused}
 use Rattle.world.specs.Retiring.{Retires}
 use Rattle.world.specs.Retiring as retiring
-use Rattle.world.specs.Runs.{Atom, a_step, a_real_step, a_replacement, a_retirement, IsRun, stretch, until_real}
-use Rattle.play.specs.Events.{harts_in, stretched, turns, atoms_of, Runs}
+use Rattle.world.specs.Runs.{Atom, a_step, a_real_step, a_replacement, a_retirement, IsRun, until_real}
+use Rattle.play.specs.Events.{stretch, harts_in, stretched, turns, atoms_of, Runs}
 use Rattle.play.specs.Ready.{CanObey, AreReady}
 
 -- image and live layouts are as before
@@ -81,7 +81,7 @@ replaced_image plan w v (done goes is) = ap (λ (x : Replaced). x.image) is.is
 replaced_image plan w v (refused why room goes is_why is) = ap (λ (x : Replaced). x.image) is
 
 -- and so does a retirement
-retired_image : (w v : Replaced) → Retires w v → v.image ≡ w.image
+pub retired_image : (w v : Replaced) → Retires w v → v.image ≡ w.image
 retired_image w v (retiring.over ended is) = ap (λ (x : Replaced). x.image) is
 retired_image w v (retiring.done n goes is) = ap (λ (x : Replaced). x.image) is.is
 

@@ -6,8 +6,8 @@ use Rattle.sim_laws.specs.Steps.{replaced_step, stepped}
 use Rattle.machine.specs.Steps.{step_with}
 use Rattle.sched_log.specs.declared.event.Event.{Event}
 use Rattle.world.specs.Worlds.{Replaced, step_of}
-use Rattle.world.specs.Runs.{Atom, a_step, a_real_step, Makes, IsRun, harts_of, stretch, until_real, real_step_of, real_steps_of}
-use Rattle.play.specs.Events.{harts_in, stretched, turns, atoms_of, Runs, Played}
+use Rattle.world.specs.Runs.{Atom, a_step, a_real_step, Makes, IsRun, harts_of, until_real, real_step_of, real_steps_of}
+use Rattle.play.specs.Events.{stretch, harts_in, stretched, turns, atoms_of, Runs, Played}
 
 pub runs_none : (w : Replaced) → Runs [] w w
 runs_none w = ([], (refl, refl))

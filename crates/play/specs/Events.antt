@@ -4,7 +4,12 @@ use Rattle.std.specs.List.{range_with_len}
 use Rattle.sched_log.specs.declared.event.Event.{Event}
 use Rattle.sched_log.specs.declared.event.Event.TheVariants.{Steps, Real, Till, Given, Retire}
 use Rattle.world.specs.Worlds.{Replaced}
-use Rattle.world.specs.Runs.{Atom, a_step, a_real_step, a_replacement, a_retirement, real_step_of, stretch, IsRun}
+use Rattle.world.specs.Runs.{Atom, a_step, a_real_step, a_replacement, a_retirement, real_step_of, IsRun}
+
+-- for each hart of a list one real step
+abbrev pub stretch : List ℕ → List Atom
+stretch [] = []
+stretch (h ∷ hs) = a_real_step h ∷ stretch hs
 
 -- the harts that are there, ascending
 abbrev pub harts_in : Replaced → List ℕ
