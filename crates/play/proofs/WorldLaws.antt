@@ -20,7 +20,8 @@ use Rattle.world.specs.Retiring.{Retires}
 use Rattle.world.specs.Retiring as retiring
 use Rattle.world.specs.Runs.{until_real, real_kind_of, real_step_of}
 use Rattle.world.proofs.Following.{step_follows, never_layout, real_over, real_follows}
-use Rattle.world.proofs.Running.{replaces_related, retires_related}
+use Rattle.world.proofs.RelatedAgain.{replaces_related}
+use Rattle.world.proofs.Retirement.{retires_related}
 use Rattle.world.proofs.Starting.{started_related}
 use Rattle.play.proofs.Laws.{Stands, Laws, OneResult}
 use Rattle.play.proofs.OneReplacement.{one_replacement}
