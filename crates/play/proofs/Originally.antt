@@ -93,13 +93,17 @@ going_is w h none going = by_live (is_live (hart_in w.machine.harts h).status)
     by_live false = rw (going) refl
 
 -- of no layouts none is left
+take_none : (n : ℕ) → take {A = Laid} n [] ≡ []
+take_none zero = refl
+take_none (suc n) = refl
+
+drop_none : (n : ℕ) → drop {A = Laid} n [] ≡ []
+drop_none zero = refl
+drop_none (suc n) = refl
+
 without_none : (ks : List ℕ) → without {A = Laid} ks [] ≡ []
 without_none [] = refl
-without_none (k ∷ ks) = rw (without_none ks) (none_of k)
-  where
-    none_of : (k : ℕ) → take k [] ++ drop {A = Laid} (k + 1) [] ≡ []
-    none_of zero = refl
-    none_of (suc k) = refl
+without_none (k ∷ ks) = rw (without_none ks) (ap (λ (ls : List Laid). ls ++ drop (k + 1) []) (take_none k) ∙ drop_none (k + 1))
 
 none_left : (w v : Replaced) → Retires w v → w.lives ≡ [] → v.lives ≡ []
 none_left w v (retiring.over ended is) none = ap (λ (x : Replaced). x.lives) is ∙ none
