@@ -103,7 +103,10 @@ drop_none (suc n) = refl
 
 without_none : (ks : List ℕ) → without {A = Laid} ks [] ≡ []
 without_none [] = refl
-without_none (k ∷ ks) = rw (without_none ks) (ap (λ (ls : List Laid). ls ++ drop (k + 1) []) (take_none k) ∙ drop_none (k + 1))
+without_none (k ∷ ks) =
+    ap (λ (ls : List Laid). take k ls ++ drop (k + 1) ls) (without_none ks)
+    ∙ ap (λ (ls : List Laid). ls ++ drop (k + 1) []) (take_none k)
+    ∙ drop_none (k + 1)
 
 none_left : (w v : Replaced) → Retires w v → w.lives ≡ [] → v.lives ≡ []
 none_left w v (retiring.over ended is) none = ap (λ (x : Replaced). x.lives) is ∙ none
