@@ -104,9 +104,9 @@ drop_none (suc n) = refl
 without_none : (ks : List ℕ) → without {A = Laid} ks [] ≡ []
 without_none [] = refl
 without_none (k ∷ ks) =
-    ap (λ (ls : List Laid). take k ls ++ drop (k + 1) ls) (without_none ks)
-    ∙ ap (λ (ls : List Laid). ls ++ drop (k + 1) []) (take_none k)
-    ∙ drop_none (k + 1)
+    ap (λ (ls : List Laid). take k ls ++ drop (suc k) ls) (without_none ks)
+    ∙ ap (λ (ls : List Laid). ls ++ drop (suc k) []) (take_none k)
+    ∙ drop_none (suc k)
 
 none_left : (w v : Replaced) → Retires w v → w.lives ≡ [] → v.lives ≡ []
 none_left w v (retiring.over ended is) none = ap (λ (x : Replaced). x.lives) is ∙ none
