@@ -209,6 +209,23 @@ fn a_guest_whose_code_moves_ends_as_before(rt: HostRuntime) -> Result<(), Fail> 
     Ok(())
 }
 
+// The same for snapshots and the plans that come of them.
+const SNAPPED: &str = "\
+what ran: countdown | real 0 9/snap/replace/till 100 = 28|real 20 layout 1/snaps 1 attempts 1 done 1 refused 0 retired 0/sites 2 slots 0/layout 1 0x12000 12/hart 0 ended/|ocolos: exit 28/
+the last two transfers: countdown | --ring 2 | real 0 9/snap/replace/till 100 = 28|real 20 layout 1/snaps 1 attempts 1 done 1 refused 0 retired 0/sites 2 slots 0/layout 1 0x12000 7/hart 0 ended/|ocolos: exit 28/
+the same in moved code: countdown | --ring 4 | replace 1:2 1 0/real 0 9/snap/replace/till 100 = 28|real 20 layout 4/snaps 1 attempts 2 done 2 refused 0 retired 0/sites 2 slots 0/layout 1 0x12000 9/layout 2 0x12024 12/hart 0 ended/|ocolos: exit 28/
+nothing ran: line | snap/replace/till 100 = 0|real 8 layout 0/snaps 1 attempts 1 done 1 refused 0 retired 0/sites 0 slots 0/hart 0 ended/|ocolos: exit 0/
+no snapshot: countdown | real 0 9/replace/till 100 = 28|real 20 layout 0/snaps 0 attempts 1 done 1 refused 0 retired 0/sites 0 slots 0/hart 0 ended/|ocolos: exit 28/
+the last of two: countdown | snap/real 0 9/snap/replace/till 100 = 28|real 20 layout 1/snaps 2 attempts 1 done 1 refused 0 retired 0/sites 2 slots 0/layout 1 0x12000 12/hart 0 ended/|ocolos: exit 28/
+one that is older than what ran: countdown | snap/real 0 9/replace/till 100 = 28|real 20 layout 0/snaps 1 attempts 1 done 1 refused 0 retired 0/sites 0 slots 0/hart 0 ended/|ocolos: exit 28/
+after the end: countdown | till 100/snap/replace/retire = 28|real 20 layout 0/snaps 0 attempts 0 done 0 refused 0 retired 0/sites 0 slots 0/hart 0 ended/|ocolos: exit 28/";
+
+#[test]
+fn code_moves_by_the_last_snapshot(rt: HostRuntime) -> Result<(), Fail> {
+    assert_eq!(rt; first_misreported(rt.alloc(), SNAPPED)?.as_str(), "");
+    Ok(())
+}
+
 const SCRIPT_FAULTS: &str = "\
 a function past the last: exit | replace 9:0 = 124||ocolos: script line 1 fault 3/
 another order: exit | replace 0:1 = 124||ocolos: script line 1 fault 4/
@@ -250,6 +267,40 @@ fn a_generated_guest_of_five_harts_prints_its_sum(rt: HostRuntime) -> Result<(),
     assert_eq!(rt;
         generated(rt.alloc())?.as_slice(),
         b"generated 1 prints 18000\n0|18000\n|ocolos: exit 0\n".as_slice()
+    );
+    Ok(())
+}
+
+#[test]
+fn a_generated_guest_runs_with_no_files(rt: HostRuntime) -> Result<(), Fail> {
+    assert_eq!(rt;
+        answered(rt.alloc(), "--generate 1")?.as_slice(),
+        b"0|18000\n|ocolos: exit 0\n".as_slice()
+    );
+    Ok(())
+}
+
+// Its code moves twenty times: the status, what is printed, the report and the last line.
+const GENERATED: &str = "\
+0|18000
+|real 55584 layout 0
+snaps 20 attempts 20 done 20 refused 0 retired 18
+sites 1 slots 8
+layout 19 0x13000 129
+layout 20 0x13204 129
+hart 0 live 0x10128 0x10128
+hart 1 ended
+hart 2 ended
+hart 3 ended
+hart 4 ended
+ocolos: exit 0
+";
+
+#[test]
+fn a_generated_guest_moves_by_its_own_snapshots(rt: HostRuntime) -> Result<(), Fail> {
+    assert_eq!(rt;
+        answered(rt.alloc(), "--generate 1 --report")?.as_slice(),
+        GENERATED.as_bytes()
     );
     Ok(())
 }

@@ -12,7 +12,7 @@ use Rattle.guest_gen.specs.declared.decision.Refusal.TheVariants.{Fault}
 use Rattle.guest_gen.specs.Generated.{text, IsGenerated}
 use Rattle.guest_gen.specs.Decision.{Wanted, a_text, a_guest, IsFileOf, IsGuestFile, Assembles, Generates, Delivers, refusal_of, make, reading_of, Decides}
 
-one_guest : (n : ℕ) (p q : Program) → IsGenerated n p → IsGenerated n q → p ≡ q
+pub one_guest : (n : ℕ) (p q : Program) → IsGenerated n p → IsGenerated n q → p ≡ q
 one_guest n p q a b =
     same_program p q (words_once p.text q.text (text n) a.words b.words) (a.in_data ∙ sym b.in_data) (a.start_at ∙ sym b.start_at)
     (a.functions_are ∙ sym b.functions_are) (a.objects_are ∙ sym b.objects_are) (a.relocations ∙ sym b.relocations)

@@ -1,4 +1,5 @@
-//! Runs a program under a script and writes what the run delivers: `ocolos_play PROGRAM SCRIPT`, with `--region BASE:SIZE` and `--report`.
+//! Runs a program under a script and writes what the run delivers: `ocolos_play PROGRAM SCRIPT` or `ocolos_play --generate N`, with
+//! `--region BASE:SIZE`, `--ring N` and `--report`.
 #![tactic(auto)]
 
 use oc_base::fault::NoMemory;

@@ -1,5 +1,6 @@
 -- What an attempt that doesn't run out of memory makes of a world.
 use Rattle.std.proofs.Common.{◌≡◌, ◌≢◌, ℕ, Bool, true, false, List, Result, Ok, Err, refl, is_some}
+use Rattle.std.specs.Prelude.{OnOk}
 use Rattle.plans.specs.declared.plan.Moved.{Moved}
 use Rattle.sched_log.specs.declared.facts.Refusal.{Refusal}
 use Rattle.sched_log.specs.declared.facts.Refusal.TheVariants.{RegionFull, BranchReach, Unreadable, NoMemory}
@@ -8,6 +9,8 @@ use Rattle.oc_base.specs.declared.fault.NoMemory.{NoMemory as Full}
 use Rattle.world.specs.Replacing.{Attempts, Replaces, over, done, refused}
 use Rattle.world.specs.Retiring.{RetiresAs, Retires}
 use Rattle.world.specs.Retiring as retiring
+use Rattle.world.specs.Records.{SnapsAs, Snaps}
+use Rattle.world.specs.Records as records
 
 pub replaces : (plan : List Moved) (w v : Replaced) (answer : Result Unit Refusal) → Attempts plan w (is_some w.machine.outcome) answer v → answer ≢ Err NoMemory → Replaces plan w v
 replaces plan w v answer = by_end answer (is_some w.machine.outcome) refl
@@ -28,3 +31,15 @@ retires w v n = by_end (is_some w.machine.outcome) refl
     by_end : (b : Bool) → is_some w.machine.outcome ≡ b → RetiresAs w b (Ok n) v → Retires w v
     by_end true e is = retiring.over e is.1
     by_end false e is = retiring.done n e is
+
+-- a snapshot that is taken
+pub snaps : (w v : Replaced) (done : Unit {0}) → SnapsAs w (is_some w.machine.outcome) (Ok done) v → Snaps w v
+snaps w v done = by_end (is_some w.machine.outcome) refl
+  where
+    by_end : (b : Bool) → is_some w.machine.outcome ≡ b → SnapsAs w b (Ok done) v → Snaps w v
+    by_end true e is = records.over e is
+    by_end false e is = records.done e is
+
+pub snaps_as : (w v : Replaced) (answer : Result Unit Full) → SnapsAs w (is_some w.machine.outcome) answer v → OnOk answer (Snaps w v)
+snaps_as w v (Ok done) is = snaps w v done is
+snaps_as w v (Err e) is = tt

@@ -4,9 +4,11 @@ pub mod Laws
 pub mod OneDecision
 pub mod OneReplacement
 pub mod OneRetirement
+pub mod OneSnapshot
 pub mod OneText
 pub mod OneWord
 pub mod Originally
+pub mod Places
 pub mod ReadyNext
 pub mod Running
 pub mod Whole

@@ -2,7 +2,7 @@
 use Rattle.std.proofs.Common.{◌≡◌, ℕ, true, false, List, is_some, sym, ap, ◌∙◌}
 use Rattle.std.proofs.lemmas.Bool.{false≢true}
 use Rattle.branch_ring.specs.Profiles.{all_pairs}
-use Rattle.branch_ring.proofs.OneProfile.{one_profile}
+use Rattle.branch_ring.proofs.Ascending.{one_profile}
 use Rattle.world.specs.Worlds.{Replaced, more}
 use Rattle.world.specs.Records.{IsSnapped, Snaps, over, done}
 

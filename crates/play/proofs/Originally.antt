@@ -8,6 +8,7 @@ use Rattle.std.proofs.lemmas.Bool.{eq-eqb}
 use Rattle.rv_isa.specs.declared.instr.Instr.{Instr}
 use Rattle.rv_isa.specs.declared.instr.Instr.TheVariants as instr
 use Rattle.image.specs.Picture.{Picture}
+use Rattle.plans.specs.declared.plan.Moved.{Moved}
 use Rattle.layout.specs.declared.point.Point.TheVariants.{Start}
 use Rattle.layout.specs.Laid.{Laid}
 use Rattle.layout.specs.Points.{live_at, in_range, here_point, read}
@@ -17,7 +18,7 @@ use Rattle.machine.specs.Steps.{original_step, original_run}
 use Rattle.machine.proofs.Stays.{run_append, stays}
 use Rattle.sched_log.specs.Script.{plan_count}
 use Rattle.sched_log.specs.declared.event.Event.{Event}
-use Rattle.sched_log.specs.declared.event.Event.TheVariants.{Steps, Real, Till, Given, Retire}
+use Rattle.sched_log.specs.declared.event.Event.TheVariants.{Steps, Real, Till, Snap, Replace, Given, Retire}
 use Rattle.sim_laws.specs.declared.stepped.Stepped.{Stepped}
 use Rattle.sim_laws.specs.declared.stepped.Stepped.TheVariants as kind
 use Rattle.sim_laws.specs.Origins.{is_moved_address, is_layout_point, is_layout_step}
@@ -27,12 +28,13 @@ use Rattle.sim_laws.proofs.HartLists.{no_left, no_right}
 use Rattle.world.specs.Worlds.{Replaced, kind_of, step_of, code_of}
 use Rattle.world.specs.Retiring.{without, Retires}
 use Rattle.world.specs.Retiring as retiring
-use Rattle.world.specs.Runs.{Atom, a_step, a_real_step, a_replacement, a_retirement, IsRun, of_real, real_kind_of, real_step_of, until_real}
-use Rattle.play.specs.Events.{stretch, harts_in, stretched, turns, atoms_of, Plays}
+use Rattle.world.specs.Records.{Snaps}
+use Rattle.world.specs.Records as records
+use Rattle.world.specs.Runs.{Atom, a_step, a_real_step, a_snap, a_replacement, a_retirement, IsRun, of_real, real_kind_of, real_step_of, until_real}
+use Rattle.play.specs.Events.{stretch, harts_in, stretched, turns, Obeys, Plays}
 use Rattle.play.specs.Schedule as original
-use Rattle.play.specs.Ready.{CanObey, AreReady}
 use Rattle.play.proofs.Laws.{Stands, Laws}
-use Rattle.play.proofs.ReadyNext.{step_unmoved, real_unmoved, AreSteps, steps_are, reals_are, turns_are, run_unmoved, retired_image, event_image, ready_next, can_obey}
+use Rattle.play.proofs.ReadyNext.{step_unmoved, real_unmoved, AreSteps, steps_are, reals_are, turns_are, run_unmoved, retired_image, snapped_image, event_image}
 
 -- what the original machine does meanwhile is its run of the harts of the real steps
 meanwhile : (k : Stepped) (p : Picture) (h : ℕ) (o : State) → original_after k p h o ≡ original_run p (of_real k h) o
@@ -112,6 +114,10 @@ none_left : (w v : Replaced) → Retires w v → w.lives ≡ [] → v.lives ≡ 
 none_left w v (retiring.over ended is) none = ap (λ (x : Replaced). x.lives) is ∙ none
 none_left w v (retiring.done n goes is) none = ap (λ (x : Replaced). x.lives) is.is ∙ ap (without is.gone) none ∙ without_none is.gone
 
+same_lives : (w v : Replaced) → Snaps w v → v.lives ≡ w.lives
+same_lives w v (records.over ended is) = ap (λ (x : Replaced). x.lives) is
+same_lives w v (records.done goes is) = ap (λ (x : Replaced). x.lives) is.is
+
 module _ (laws : Laws) where
   -- ---- any run
   -- a step, and what comes after it
@@ -133,28 +139,36 @@ module _ (laws : Laws) where
       let same : r.0.image ≡ w.image = ap (λ (x : Replaced). x.image) r.2 ∙ (real_unmoved 3 h w).image in
       let next : Stands r.0 (original_after (real_kind_of h w) w.image h o) = subst (λ x. Stands x (original_after (real_kind_of h w) w.image h o)) (sym r.2) (laws.real h w o at) in
       rw (r.3) (then_follows (real_kind_of h w) h w r.0 v r.1 o same (λ o at. steps_follow more r.1 r.0 v o steps r.4 at) next)
+  steps_follow (a_snap ∷ more) hs w v o steps r at = absurd steps
   steps_follow (a_replacement plan ∷ more) hs w v o steps r at = absurd steps
   steps_follow (a_retirement ∷ more) hs w v o steps r at = absurd steps
 
-  pub event_follows : (e : Event) (hs : List ℕ) (w v : Replaced) (o : State) → CanObey e w → IsRun (atoms_of e w) hs w v → Stands w o → Stands v (original_run w.image hs o)
-  event_follows (Steps h n) hs w v o can r at = steps_follow (replicate n (a_step h)) hs w v o (steps_are n h) r at
-  event_follows (Real h n) hs w v o can r at = steps_follow (replicate n (a_real_step h)) hs w v o (reals_are n h) r at
-  event_follows (Till n) hs w v o can r at = steps_follow (turns n w) hs w v o (turns_are n w) r at
-  event_follows (Given plan) hs w v o can r at =
+  replacement_follows : (plan : List Moved) (hs : List ℕ) (w v : Replaced) (o : State) → IsRun (a_replacement plan ∷ []) hs w v → Stands w o → Stands v (original_run w.image hs o)
+  replacement_follows plan hs w v o r at =
       let later : hs ≡ [] = r.3 ∙ r.4.0 in
       rw (later) (subst (λ x. Stands x o) (sym r.4.1) (laws.replaced plan w r.0 o r.2.0 r.2.1 at))
-  event_follows Retire hs w v o can r at =
+
+  pub event_follows : (e : Event) (hs : List ℕ) (w v : Replaced) (o : State) → Obeys e hs w v → Stands w o → Stands v (original_run w.image hs o)
+  event_follows (Steps h n) hs w v o r at = steps_follow (replicate n (a_step h)) hs w v o (steps_are n h) r at
+  event_follows (Real h n) hs w v o r at = steps_follow (replicate n (a_real_step h)) hs w v o (reals_are n h) r at
+  event_follows (Till n) hs w v o r at = steps_follow (turns n w) hs w v o (turns_are n w) r at
+  event_follows Snap hs w v o r at =
+      let later : hs ≡ [] = r.3 ∙ r.4.0 in
+      rw (later) (subst (λ x. Stands x o) (sym r.4.1) (laws.snapped w r.0 o r.2 at))
+  event_follows Replace hs w v o r at = replacement_follows r.0 hs w v o r.2 at
+  event_follows (Given plan) hs w v o r at = replacement_follows plan hs w v o r at
+  event_follows Retire hs w v o r at =
       let later : hs ≡ [] = r.3 ∙ r.4.0 in
       rw (later) (subst (λ x. Stands x o) (sym r.4.1) (laws.retired w r.0 o r.2 at))
 
-  pub plays_follow : (es : List Event) (hs : List ℕ) (w v : Replaced) (o : State) → AreReady es w → Plays es hs w v → Stands w o → Stands v (original_run w.image hs o)
-  plays_follow [] hs w v o ready r at = rw (r.0, r.1) at
-  plays_follow (e ∷ es) hs w v o ready r at =
+  pub plays_follow : (es : List Event) (hs : List ℕ) (w v : Replaced) (o : State) → Plays es hs w v → Stands w o → Stands v (original_run w.image hs o)
+  plays_follow [] hs w v o r at = rw (r.0, r.1) at
+  plays_follow (e ∷ es) hs w v o r at =
       let split : original_run w.image hs o ≡ original_run w.image r.2 (original_run w.image r.1 o) = ap (λ x. original_run w.image x o) r.4 ∙ run_append w.image r.1 r.2 o in
       let same : r.0.image ≡ w.image = event_image e r.1 w r.0 r.3 in
-      let next : Stands r.0 (original_run w.image r.1 o) = event_follows e r.1 w r.0 o (can_obey e es w ready) r.3 at in
+      let next : Stands r.0 (original_run w.image r.1 o) = event_follows e r.1 w r.0 o r.3 at in
       let rest : Stands v (original_run r.0.image r.2 (original_run w.image r.1 o)) =
-      plays_follow es r.2 r.0 v (original_run w.image r.1 o) (ready_next e es w r.0 ready (r.1, r.3)) r.5 next in
+      plays_follow es r.2 r.0 v (original_run w.image r.1 o) r.5 next in
       rw (split) (subst (λ p. Stands v (original_run p r.2 (original_run w.image r.1 o))) same rest)
 
   -- ---- a run that moves nothing
@@ -226,11 +240,17 @@ module _ (laws : Laws) where
   retired_plainly : (w v : Replaced) (o : State) → Retires w v → w.lives ≡ [] → Stands w o → Plainly w v o
   retired_plainly w v o is none at = record { image = retired_image w v is; lives = none_left w v is none; related = laws.retired w v o is at }
 
-  event_plainly : (e : Event) (hs : List ℕ) (w v : Replaced) (o : State) → plan_count e ≡ 0 → IsRun (atoms_of e w) hs w v → w.lives ≡ [] → Stands w o
+  -- a snapshot moves nothing
+  snapped_plainly : (w v : Replaced) (o : State) → Snaps w v → w.lives ≡ [] → Stands w o → Plainly w v o
+  snapped_plainly w v o is none at = record { image = snapped_image w v is; lives = same_lives w v is ∙ none; related = laws.snapped w v o is at }
+
+  event_plainly : (e : Event) (hs : List ℕ) (w v : Replaced) (o : State) → plan_count e ≡ 0 → Obeys e hs w v → w.lives ≡ [] → Stands w o
       → Plainly w v (original_run w.image (original.harts_of w.image e o) o)
   event_plainly (Steps h n) hs w v o none r lives at = steps_plainly n h hs w v o r lives at
   event_plainly (Real h n) hs w v o none r lives at = reals_plainly n h hs w v o r lives at
   event_plainly (Till n) hs w v o none r lives at = turns_plainly n hs w v o r lives at
+  event_plainly Snap hs w v o none r lives at = subst (λ x. Plainly w x o) (sym r.4.1) (snapped_plainly w r.0 o r.2 lives at)
+  event_plainly Replace hs w v o none r lives at = absurd (omega (arith, none))
   event_plainly (Given plan) hs w v o none r lives at = absurd (omega (arith, none))
   event_plainly Retire hs w v o none r lives at = subst (λ x. Plainly w x o) (sym r.4.1) (retired_plainly w r.0 o r.2 lives at)
 

@@ -9,9 +9,11 @@ use Rattle.top_call.specs.Reading.{input_name, FileRead, InputRead}
 use Rattle.top_call.specs.Writing.{to_out, to_err, Broken, AllWritten, WriteFailed}
 use Rattle.top_call.specs.declared.reading.Unread.{Unread}
 use Rattle.top_call.specs.declared.reading.Unread.TheVariants as unread
-use Rattle.top_call.proofs.Called.{Told_of, told_whole, told_fault, told_full, Along, Frame, frame, asked_part, decided_only, told_of, settles, all_fail_once, asked_it, asked_for, last_asked}
+use Rattle.top_call.proofs.Called.{Told_of, told_whole, told_fault, told_full, Along, Frame, frame, asked_part, decided_only, told_of, settles, all_fail_once, asked_it, asked_for, last_asked, gained_none}
 use Rattle.machine.specs.declared.outcome.Outcome.{Outcome}
-use Rattle.play_words.specs.Words.{words_of, named, names_of}
+use Rattle.play_words.specs.Words.{words_of, files_of, named, names_of}
+use Rattle.play_words.specs.declared.words.Guest.{Guest}
+use Rattle.play_words.specs.declared.words.Guest.TheVariants.{Files, Generated}
 use Rattle.play_words.specs.declared.words.Words.{Words}
 use Rattle.report.specs.Answer.{status_of, line_of}
 use Rattle.report.specs.Cause.{refusal_of, err_of, writes_of, answer_by, answer_of, unwritten_of, run_ending}
@@ -19,7 +21,7 @@ use Rattle.report.specs.declared.answer.Answer.{Answer}
 use Rattle.report.specs.declared.answer.Ended.{Ended}
 use Rattle.report.specs.declared.answer.Ended.TheVariants.{Ran, Usage, ReadFault, TooLong, Program, Script, WriteFault, NoMemory}
 use Rattle.report.specs.declared.writing.Delivery.{Delivery}
-use Rattle.play.specs.Decision.{program_limit, script_limit, Given, reading_for, reading_of, Delivers, bad_program, bad_script, ran, play, Decides}
+use Rattle.play.specs.Decision.{program_limit, script_limit, Asked, Given, given_with, reading_by, reading_for, reading_of, Delivers, bad_program, bad_script, ran, Answers, play, Decides}
 use Rattle.play.specs.Originals.{RunsOriginally}
 use Rattle.play.specs.Promise.{AnswersRun, Cause, Unreported, Promise}
 
@@ -57,33 +59,54 @@ input_at w a between b (unread.Failed given) same read = inr (read.cause.0, subs
 input_at w a between b (unread.TooLong given) same read = tt
 input_at w a between b unread.NoMemory same read = tt
 
-given_at : (w : Option Words) (given : Given) (a b : Outside) (d : Result Delivery Ended) → b.asked ≡ gained a.asked (named w) → ForSome b.left (λ left. left ≡ []) → Delivers given d → DecidedAt w a b d
-given_at w given a b _ asked ends (bad_program fault is) = tt
-given_at w given a b _ asked ends (bad_script image fault built is) = tt
-given_at w given a b _ asked ends (ran image world built is) = (asked, ends)
+delivers_at : (w : Option Words) (given : Given) (a b : Outside) (d : Result Delivery Ended) → b.asked ≡ gained a.asked (named w) → ForSome b.left (λ left. left ≡ []) → Delivers given d → DecidedAt w a b d
+delivers_at w given a b _ asked ends (bad_program fault is) = tt
+delivers_at w given a b _ asked ends (bad_script image fault built is) = tt
+delivers_at w given a b _ asked ends (ran image world built is) = (asked, ends)
+
+answers_at : (w : Option Words) (asked : Asked) (a b : Outside) (d : Result Delivery Ended) → b.asked ≡ gained a.asked (named w) → ForSome b.left (λ left. left ≡ []) → Answers asked d → DecidedAt w a b d
+answers_at w asked a b d names ends is = delivers_at w (given_with asked.said is.program is.script asked.input) a b d names ends is.delivers
 
 -- both names
 both : (a b c : Outside) (p s : List ℕ) → b.asked ≡ gained a.asked (p ∷ []) → c.asked ≡ gained b.asked (s ∷ []) → c.asked ≡ gained a.asked (p ∷ s ∷ [])
 both a b c p s first second = second ∙ ap (λ told. gained told (s ∷ [])) first ∙ gained-gained a.asked (p ∷ []) (s ∷ [])
 
+files_at : (said : Words) (p s : List ℕ) (a b : Outside) (d : Result Delivery Ended) → named (Some said) ≡ p ∷ s ∷ [] → Decided play (reading_by (Files p s) said) a b d → DecidedAt (Some said) a b d
+files_at said p s a b d names (inl (why, x, is)) = subst (DecidedAt (Some said) a b) (sym is) (file_at (Some said) p program_limit a a b why refl x)
+files_at said p s a b d names (inr (program, c, x, inl (why, y, is))) = subst (DecidedAt (Some said) a b) (sym is) (file_at (Some said) s script_limit a c b why x.cause.1 y)
+files_at said p s a b d names (inr (program, c, x, inr (script, e, y, inl (why, i, is)))) =
+    subst (DecidedAt (Some said) a b) (sym is) (input_at (Some said) a e b why (ap (λ (x : Outside). x.reads) y.rest ∙ ap (λ (x : Outside). x.reads) x.rest) i)
+files_at said p s a b d names (inr (program, c, x, inr (script, e, y, inr (input, f, i, (same, inl is))))) =
+    answers_at (Some said) _ a b d
+    (ap (λ (x : Outside). x.asked) same ∙ ap (λ (x : Outside). x.asked) i.rest ∙ both a c e p s (asked_it a.asked c.asked p program x.asked) (asked_it c.asked e.asked s script y.asked) ∙ ap (gained a.asked) (sym names))
+    (subst (λ told. ForSome told (λ left. left ≡ [])) (sym (ap (λ (x : Outside). x.left) same)) i.cause.1) is
+files_at said p s a b d names (inr (program, c, x, inr (script, e, y, inr (input, f, i, (same, inr is))))) = subst (DecidedAt (Some said) a b) (sym is) tt
+
+guest_at : (said : Words) (count : ℕ) (a b : Outside) (d : Result Delivery Ended) → named (Some said) ≡ [] → Decided play (reading_by (Generated count) said) a b d → DecidedAt (Some said) a b d
+guest_at said count a b d names (inl (why, i, is)) = subst (DecidedAt (Some said) a b) (sym is) (input_at (Some said) a a b why refl i)
+guest_at said count a b d names (inr (input, f, i, (same, inl is))) =
+    answers_at (Some said) _ a b d
+    (ap (λ (x : Outside). x.asked) same ∙ ap (λ (x : Outside). x.asked) i.rest ∙ sym (gained_none a.asked) ∙ ap (gained a.asked) (sym names))
+    (subst (λ told. ForSome told (λ left. left ≡ [])) (sym (ap (λ (x : Outside). x.left) same)) i.cause.1) is
+guest_at said count a b d names (inr (input, f, i, (same, inr is))) = subst (DecidedAt (Some said) a b) (sym is) tt
+
+said_at : (said : Words) (guest : Guest) (a b : Outside) (d : Result Delivery Ended) → said.guest ≡ guest → Decided play (reading_by guest said) a b d → DecidedAt (Some said) a b d
+said_at said (Files p s) a b d is decided = files_at said p s a b d (ap files_of is) decided
+said_at said (Generated count) a b d is decided = guest_at said count a b d (ap files_of is) decided
+
 pub decided_at : (w : Option Words) (a b : Outside) (d : Result Delivery Ended) → Decided play (reading_for w) a b d → DecidedAt w a b d
 decided_at None a b d (same, inl is) = subst (DecidedAt None a b) (sym is) (refl, ap (λ (x : Outside). x.asked) same, ap (λ (x : Outside). x.left) same)
 decided_at None a b d (same, inr is) = subst (DecidedAt None a b) (sym is) tt
-decided_at (Some said) a b d (inl (why, p, is)) = subst (DecidedAt (Some said) a b) (sym is) (file_at (Some said) said.program program_limit a a b why refl p)
-decided_at (Some said) a b d (inr (program, c, p, inl (why, s, is))) =
-    subst (DecidedAt (Some said) a b) (sym is) (file_at (Some said) said.script script_limit a c b why p.cause.1 s)
-decided_at (Some said) a b d (inr (program, c, p, inr (script, e, s, inl (why, i, is)))) =
-    subst (DecidedAt (Some said) a b) (sym is) (input_at (Some said) a e b why (ap (λ (x : Outside). x.reads) s.rest ∙ ap (λ (x : Outside). x.reads) p.rest) i)
-decided_at (Some said) a b d (inr (program, c, p, inr (script, e, s, inr (input, f, i, (same, inl is))))) =
-    given_at (Some said) _ a b d
-    (ap (λ (x : Outside). x.asked) same ∙ ap (λ (x : Outside). x.asked) i.rest ∙ both a c e said.program said.script (asked_it a.asked c.asked said.program program p.asked) (asked_it c.asked e.asked said.script script s.asked))
-    (subst (λ told. ForSome told (λ left. left ≡ [])) (sym (ap (λ (x : Outside). x.left) same)) i.cause.1) is
-decided_at (Some said) a b d (inr (program, c, p, inr (script, e, s, inr (input, f, i, (same, inr is))))) = subst (DecidedAt (Some said) a b) (sym is) tt
+decided_at (Some said) a b d decided = said_at said said.guest a b d refl decided
 
 -- the names of the words are what is asked for
+along_by : (guest : Guest) (said : Words) → Along play (files_of guest) (reading_by guest said)
+along_by (Files p s) said = (s ∷ [], refl, λ program. ([], refl, λ script input. refl))
+along_by (Generated count) said = λ input. refl
+
 along : (w : Option Words) → Along play (named w) (reading_for w)
 along None = refl
-along (Some said) = (said.script ∷ [], refl, λ program. ([], refl, λ script input. refl))
+along (Some said) = along_by said.guest said
 
 -- ---- what was written
 
@@ -241,6 +264,7 @@ module _ (words : List (List ℕ)) (before after : Outside) where
           report = ap (λ (x : Answer). x.report) is;
           out = run_out delivery before read after kept whole;
           err = run_err delivery before read after kept whole;
+          left = subst (λ told. ForSome told (λ left. left ≡ [])) (sym (whole_leaves (Ok delivery) read after whole).left) (decided_at (words_of words) before read (Ok delivery) decided).1;
         }
     headline_of answer (is_refused ended read decided leaves is) outcome answered =
         absurd (not_ran ended outcome read (decided_at (words_of words) before read (Err ended) decided) (sym (ended_is answer ended [] is) ∙ answered))

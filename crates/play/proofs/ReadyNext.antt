@@ -7,14 +7,16 @@ use Rattle.plans.specs.declared.plan.Moved.{Moved}
 use Rattle.image.specs.Picture.{Picture}
 use Rattle.sched_log.specs.Ranges.{AreInRange, IsInRange}
 use Rattle.sched_log.specs.declared.event.Event.{Event}
-use Rattle.sched_log.specs.declared.event.Event.TheVariants.{Steps, Real, Till, Given, Retire}
+use Rattle.sched_log.specs.declared.event.Event.TheVariants.{Steps, Real, Till, Snap, Replace, Given, Retire}
 use Rattle.sim_laws.specs.Steps.{is_layout}
 use Rattle.world.specs.Worlds.{Replaced, kind_of, step_of, started}
 use Rattle.world.specs.Replacing.{Replaces, over, done, refused}
 use Rattle.world.specs.Retiring.{Retires}
 use Rattle.world.specs.Retiring as retiring
-use Rattle.world.specs.Runs.{Atom, a_step, a_real_step, a_replacement, a_retirement, IsRun, until_real}
-use Rattle.play.specs.Events.{stretch, harts_in, stretched, turns, atoms_of, Runs}
+use Rattle.world.specs.Records.{Snaps}
+use Rattle.world.specs.Records as records
+use Rattle.world.specs.Runs.{Atom, a_step, a_real_step, a_snap, a_replacement, a_retirement, IsRun, until_real}
+use Rattle.play.specs.Events.{stretch, harts_in, stretched, turns, Obeys, Obeyed, Plays}
 use Rattle.play.specs.Ready.{CanObey, AreReady}
 
 -- image and live layouts are as before
@@ -46,6 +48,7 @@ abbrev pub AreSteps : List Atom → Type 0
 AreSteps [] = Unit {0}
 AreSteps (a_step h ∷ more) = AreSteps more
 AreSteps (a_real_step h ∷ more) = AreSteps more
+AreSteps (a_snap ∷ more) = ⊥
 AreSteps (a_replacement plan ∷ more) = ⊥
 AreSteps (a_retirement ∷ more) = ⊥
 
@@ -55,6 +58,7 @@ run_unmoved (a_step h ∷ more) hs w v steps r =
     both_unmoved w r.0 v (subst (SameCode w) (sym r.2) (step_unmoved h w)) (run_unmoved more r.1 r.0 v steps r.4)
 run_unmoved (a_real_step h ∷ more) hs w v steps r =
     both_unmoved w r.0 v (subst (SameCode w) (sym r.2) (real_unmoved 3 h w)) (run_unmoved more r.1 r.0 v steps r.4)
+run_unmoved (a_snap ∷ more) hs w v steps r = absurd steps
 run_unmoved (a_replacement plan ∷ more) hs w v steps r = absurd steps
 run_unmoved (a_retirement ∷ more) hs w v steps r = absurd steps
 
@@ -85,33 +89,46 @@ pub retired_image : (w v : Replaced) → Retires w v → v.image ≡ w.image
 retired_image w v (retiring.over ended is) = ap (λ (x : Replaced). x.image) is
 retired_image w v (retiring.done n goes is) = ap (λ (x : Replaced). x.image) is.is
 
+-- and a snapshot
+pub snapped_image : (w v : Replaced) → Snaps w v → v.image ≡ w.image
+snapped_image w v (records.over ended is) = ap (λ (x : Replaced). x.image) is
+snapped_image w v (records.done goes is) = ap (λ (x : Replaced). x.image) is.is
+
 -- ---- events
 pub can_obey : (e : Event) (es : List Event) (w : Replaced) → AreReady (e ∷ es) w → CanObey e w
 can_obey (Steps h n) es w ready = tt
 can_obey (Real h n) es w ready = tt
 can_obey (Till n) es w ready = tt
+can_obey Snap es w ready = tt
+can_obey Replace es w ready = tt
 can_obey (Given plan) es w ready = ready.0.1
 can_obey Retire es w ready = tt
 
 -- no event changes the image
-pub event_image : (e : Event) (hs : List ℕ) (w v : Replaced) → IsRun (atoms_of e w) hs w v → v.image ≡ w.image
+pub event_image : (e : Event) (hs : List ℕ) (w v : Replaced) → Obeys e hs w v → v.image ≡ w.image
 event_image (Steps h n) hs w v r = (run_unmoved (replicate n (a_step h)) hs w v (steps_are n h) r).image
 event_image (Real h n) hs w v r = (run_unmoved (replicate n (a_real_step h)) hs w v (reals_are n h) r).image
 event_image (Till n) hs w v r = (run_unmoved (turns n w) hs w v (turns_are n w) r).image
+event_image Snap hs w v r = ap (λ (x : Replaced). x.image) r.4.1 ∙ snapped_image w r.0 r.2
+event_image Replace hs w v r = ap (λ (x : Replaced). x.image) r.2.4.1 ∙ replaced_image r.0 w r.2.0 r.2.2.1
 event_image (Given plan) hs w v r = ap (λ (x : Replaced). x.image) r.4.1 ∙ replaced_image plan w r.0 r.2.1
 event_image Retire hs w v r = ap (λ (x : Replaced). x.image) r.4.1 ∙ retired_image w r.0 r.2
 
+pub plays_image : (es : List Event) (hs : List ℕ) (w v : Replaced) → Plays es hs w v → v.image ≡ w.image
+plays_image [] hs w v p = ap (λ (x : Replaced). x.image) p.1
+plays_image (e ∷ es) hs w v p = plays_image es p.2 p.0 v p.5 ∙ event_image e p.1 w p.0 p.3
+
 -- so what is left of the events is ready after the first
-pub ready_next : (e : Event) (es : List Event) (w u : Replaced) → AreReady (e ∷ es) w → Runs (atoms_of e w) w u → AreReady es u
+pub ready_next : (e : Event) (es : List Event) (w u : Replaced) → AreReady (e ∷ es) w → Obeyed e w u → AreReady es u
 ready_next e es w u ready r = subst (λ p. AllByRecursion (IsInRange p) es) (sym (event_image e r.0 w u r.1)) ready.1
 
 -- a script's events at the start
-pub ready_first : (image : Picture) (input : List ℕ) (events : List Event) → AreInRange image events → AreReady events (started image input)
-ready_first image input events range = range.each
+pub ready_first : (image : Picture) (ring : ℕ) (input : List ℕ) (events : List Event) → AreInRange image events → AreReady events (started image ring input)
+ready_first image ring input events range = range.each
 
 -- ---- places in a list of events
 pub can_obey_at : (es : List Event) (i : ℕ) (d : Event) (w : Replaced) → i < length es → AreReady (drop i es) w → CanObey (get_or es i d) w
 can_obey_at es i d w below ready = can_obey (get_or es i d) (drop (i + 1) es) w (subst (λ x. AreReady x w) (drop_more es i d below) ready)
 
-pub ready_after : (es : List Event) (i : ℕ) (d : Event) (w u : Replaced) → i < length es → AreReady (drop i es) w → Runs (atoms_of (get_or es i d) w) w u → AreReady (drop (i + 1) es) u
+pub ready_after : (es : List Event) (i : ℕ) (d : Event) (w u : Replaced) → i < length es → AreReady (drop i es) w → Obeyed (get_or es i d) w u → AreReady (drop (i + 1) es) u
 ready_after es i d w u below ready r = ready_next (get_or es i d) (drop (i + 1) es) w u (subst (λ x. AreReady x w) (drop_more es i d below) ready) r

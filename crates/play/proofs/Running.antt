@@ -7,7 +7,7 @@ use Rattle.machine.specs.Steps.{step_with}
 use Rattle.sched_log.specs.declared.event.Event.{Event}
 use Rattle.world.specs.Worlds.{Replaced, step_of}
 use Rattle.world.specs.Runs.{Atom, a_step, a_real_step, Makes, IsRun, harts_of, until_real, real_step_of, real_steps_of}
-use Rattle.play.specs.Events.{stretch, harts_in, stretched, turns, atoms_of, Runs, Played}
+use Rattle.play.specs.Events.{stretch, harts_in, stretched, turns, Runs, Obeyed, Played}
 
 pub runs_none : (w : Replaced) → Runs [] w w
 runs_none w = ([], (refl, refl))
@@ -78,8 +78,8 @@ turns_left n i w w' v below made r =
     rw (e) (turn_runs (n - (i + 1)) w v (subst (λ x. Runs (turns (n - (i + 1)) x) x v) made r))
 
 -- of the events
-plays_more : (e : Event) (es : List Event) (w u v : Replaced) → Runs (atoms_of e w) w u → Played es u v → Played (e ∷ es) w v
+plays_more : (e : Event) (es : List Event) (w u v : Replaced) → Obeyed e w u → Played es u v → Played (e ∷ es) w v
 plays_more e es w u v r p = (r.0 ++ p.0, (u, r.0, p.0, r.1, refl, p.1))
 
-pub events_left : (es : List Event) (i : ℕ) (d : Event) (w u v : Replaced) → i < length es → Runs (atoms_of (get_or es i d) w) w u → Played (drop (i + 1) es) u v → Played (drop i es) w v
+pub events_left : (es : List Event) (i : ℕ) (d : Event) (w u v : Replaced) → i < length es → Obeyed (get_or es i d) w u → Played (drop (i + 1) es) u v → Played (drop i es) w v
 events_left es i d w u v below r p = rw (drop_more es i d below) (plays_more (get_or es i d) (drop (i + 1) es) w u v r p)

@@ -2,6 +2,8 @@
 use Rattle.std.proofs.Common.{◌≡◌, ℕ, zero, suc, Bool, true, false, List, [], ◌∷◌, refl, sym, ap, subst, ◌∙◌, is_some}
 use Rattle.std.specs.Prelude.{if◌then◌else◌}
 use Rattle.image.specs.Picture.{Picture, IsKept}
+use Rattle.branch_ring.specs.declared.counted.Counted.{Counted}
+use Rattle.placer.specs.Planned.{IsPlanFor}
 use Rattle.guest_sys.specs.State.{IsOrderly}
 use Rattle.plans.specs.declared.plan.Moved.{Moved}
 use Rattle.machine.specs.States.{State}
@@ -22,10 +24,14 @@ use Rattle.world.specs.Runs.{until_real, real_kind_of, real_step_of}
 use Rattle.world.proofs.Following.{step_follows, never_layout, real_over, real_follows}
 use Rattle.world.proofs.RelatedAgain.{replaces_related}
 use Rattle.world.proofs.Retirement.{retires_related}
+use Rattle.world.proofs.Recording.{start_records}
+use Rattle.world.proofs.RecordedRuns.{run_records}
+use Rattle.world.proofs.Snapping.{snaps_related, snaps_orderly}
 use Rattle.world.proofs.Starting.{started_related}
 use Rattle.play.proofs.Laws.{Stands, Laws, OneResult}
 use Rattle.play.proofs.OneReplacement.{one_replacement}
 use Rattle.play.proofs.OneRetirement.{one_retirement}
+use Rattle.play.proofs.OneSnapshot.{one_snapshot}
 
 step_orderly : (h : ℕ) (w : Replaced) → IsOrderly w.machine.system → IsOrderly (step_of h w).machine.system
 unfolding step_of
@@ -40,8 +46,8 @@ until_orderly (suc n) h w orderly = by_kind (is_layout (kind_of h w)) (until_ord
     by_kind true later = later
     by_kind false later = step_orderly h w orderly
 
-start_law : (image : Picture) (input : List ℕ) → IsKept image → Stands (started image input) (start_of image input)
-start_law image input kept = record { related = started_related image input kept; orderly = start_orderly image input kept }
+start_law : (image : Picture) (ring : ℕ) (input : List ℕ) → IsKept image → Stands (started image ring input) (start_of image input)
+start_law image ring input kept = record { related = started_related image ring input kept; orderly = start_orderly image input kept }
 
 step_law : (h : ℕ) (w : Replaced) (o : State) → Stands w o → Stands (step_of h w) (original_after (kind_of h w) w.image h o)
 step_law h w o at = record {
@@ -91,10 +97,15 @@ laws = record {
     related = retires_related w v o is at.related;
     orderly = subst IsOrderly (sym (retired_system w v is)) at.orderly;
   };
+  snapped = λ w v o is at. record { related = snaps_related w v o is at.related; orderly = snaps_orderly w v is at.orderly };
+  first_records = λ image ring input. start_records image ring input (start_of image input);
+  records = run_records;
 }
 
-pub one_result : OneResult
-one_result = record {
+pub one_result : ((image : Picture) (profile : List Counted) (p q : List Moved) → IsPlanFor image profile p → IsPlanFor image profile q → p ≡ q) → OneResult
+one_result one_plan = record {
   replaced = λ plan w u v o at a b. one_replacement plan w u v at.related.sound.placed.laid at.related.sound.apart (texts_of w o at) a b;
   retired = one_retirement;
+  snapped = one_snapshot;
+  plan = one_plan;
 }

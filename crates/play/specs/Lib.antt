@@ -1,6 +1,7 @@
 pub mod Promise
 pub mod Decision
 pub mod Events
+pub mod Generated
 pub mod Originals
 pub mod Ready
 pub mod Schedule

@@ -16,7 +16,8 @@ use Rattle.report.specs.declared.writing.Delivery.{Delivery}
 use Rattle.play.specs.Decision.{play, reading_of, Decides}
 use Rattle.play.specs.Originals.{RunsOriginally}
 
--- These bytes ask for a run, it is the original machine's, and all that it delivers is written and answered.
+-- These bytes ask for a run, it is the original machine's, all that it delivers is written and answered, and nothing is left of the
+-- input.
 pub record AnswersRun (words : List (List ℕ)) (disk : Disk) (input : List ℕ) (before after : Outside) (answer : Answer) : Type 0 where
   pub delivery : Delivery
   pub asked : Decides words disk input (Ok delivery)
@@ -25,6 +26,7 @@ pub record AnswersRun (words : List (List ℕ)) (disk : Disk) (input : List ℕ)
   pub report : answer.report ≡ delivery.report
   pub out : after.out ≡ gained before.out delivery.out
   pub err : after.err ≡ gained before.err (err_of delivery)
+  pub left : ForSome after.left (λ left. left ≡ [])
 
 -- The cause of each end, told or not: where the call stopped reading, or which device failed.
 abbrev pub Cause : (words : List (List ℕ)) → (before after : Outside) → Ended → Type 0

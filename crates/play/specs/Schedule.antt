@@ -6,7 +6,7 @@ use Rattle.machine.specs.States.{State}
 use Rattle.machine.specs.Start.{start_of}
 use Rattle.machine.specs.Steps.{original_run}
 use Rattle.sched_log.specs.declared.event.Event.{Event}
-use Rattle.sched_log.specs.declared.event.Event.TheVariants.{Steps, Real, Till, Given, Retire}
+use Rattle.sched_log.specs.declared.event.Event.TheVariants.{Steps, Real, Till, Snap, Replace, Given, Retire}
 
 -- one turn: each hart that is there at its start, ascending
 abbrev pub turn : State → List ℕ
@@ -22,6 +22,8 @@ abbrev pub harts_of : Picture → Event → State → List ℕ
 harts_of image (Steps h n) s = replicate n h
 harts_of image (Real h n) s = replicate n h
 harts_of image (Till n) s = turns image n s
+harts_of image Snap s = []
+harts_of image Replace s = []
 harts_of image (Given plan) s = []
 harts_of image Retire s = []
 

@@ -3,6 +3,7 @@
 #![tactic(auto)]
 
 pub mod call;
+mod generated;
 mod run;
 mod schedule;
 

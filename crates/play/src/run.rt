@@ -4,7 +4,7 @@ ghost use Rattle.std.specs.Prelude.{◌≡◌, ◌⊎◌, IfOk, IfErr, IfSome};
 ghost use Rattle.report.specs.declared.answer.Ended.{Ended};
 ghost use Rattle.image.specs.Picture.{IsPaged};
 ghost use Rattle.top_call.specs.Call.{UnlessFull};
-ghost use Rattle.play.specs.Decision.{IsBuilt, Refuses, RunsTo, Delivers, closed, delivery_of, outcome_of};
+ghost use Rattle.play.specs.Decision.{given_with, IsBuilt, Refuses, RunsTo, Delivers, closed, delivery_of, outcome_of};
 
 use crate::schedule::perform;
 use elf_read::fault::ElfFault;
@@ -14,6 +14,7 @@ use machine::outcome::Outcome;
 use oc_base::fault::NoMemory;
 use oc_base::items::Items;
 use oc_base::range::Range;
+use play_words::words::Words;
 use relocs::build::build_image;
 use relocs::fault::ImageFault;
 use report::answer::{Ended, ProgramFault};
@@ -93,39 +94,38 @@ fn run_image(
     image: Image,
     script: &[u8],
     input: Vec<u8>,
-    shown: bool,
+    said: &Words,
 ) -> Result<Delivery, Ended>
-    ensures { UnlessFull Ended.NoMemory (RunsTo image script.now input.items shown) result }
+    ensures { UnlessFull Ended.NoMemory (RunsTo image script.now input.items said.now.ring said.now.report) result }
 {
     let events = match read_script(alloc, &image, script) {
         Ok(events) => events,
         Err(ScriptFault::NoMemory) => return Err(Ended::NoMemory),
         Err(fault) => return Err(Ended::Script(fault)),
     };
-    let Ok(world) = perform(alloc, image, events.as_slice(), input) else {
+    let Ok(world) = perform(alloc, image, events.as_slice(), input, said.ring) else {
         return Err(Ended::NoMemory);
     };
-    let Ok(delivery) = delivery_of(alloc, &world, shown) else {
+    let Ok(delivery) = delivery_of(alloc, &world, said.report) else {
         return Err(Ended::NoMemory);
     };
     Ok(delivery)
 }
 
-/// Runs the program under the script, with the input and a region for moved code; `shown` says whether the report is written.
+/// Runs the program under the script, with the input, as the words say.
 pub fn run(
     alloc: Global,
     program: &[u8],
     script: &[u8],
     input: Vec<u8>,
-    region: Option<Range>,
-    shown: bool,
+    said: &Words,
 ) -> Result<Delivery, Ended>
-    requires pages { IfSome region IsPaged }
-    ensures { UnlessFull Ended.NoMemory (Delivers (record { program = program.now; script = script.now; input = input.items; region = region; shown = shown })) result }
+    requires pages { IfSome said.now.region IsPaged }
+    ensures { UnlessFull Ended.NoMemory (Delivers (given_with said.now program.now script.now input.items)) result }
 {
-    let image = match build(alloc, program, region) {
+    let image = match build(alloc, program, said.region) {
         Ok(image) => image,
         Err(ended) => return Err(ended),
     };
-    run_image(alloc, image, script, input, shown)
+    run_image(alloc, image, script, input, said)
 }

@@ -108,7 +108,7 @@ fn compressed(alloc: Global) -> Result<Vec<u8>, Fail> {
 }
 
 // The files of all rows. The whole file `hi.elf` has 403 bytes, its section headers from 211 on.
-const SCRIPTS: [(&str, &str); 12] = [
+const SCRIPTS: [(&str, &str); 13] = [
     ("whole", "real 0 100\nend\n"),
     ("four", "real 0 4\nend\n"),
     ("till", "# all harts\n\ntill 100\nend"),
@@ -119,6 +119,7 @@ const SCRIPTS: [(&str, &str); 12] = [
     ("go", "go\n"),
     ("number", "till x\n"),
     ("two ends", "end\nend\n"),
+    ("moved", "real 0 4\nsnap\nreplace\nretire\ntill 100\nend\n"),
     ("most", "real 0 2000000000\nend\n"),
     ("too many", "till 5\nreal 0 1999999996\nend\n"),
 ];
@@ -153,6 +154,9 @@ hi.elf,most|0 0 0 0|0|hi/|exit 0/
 hi.elf,four|0 0 0 0|115||unfinished/
 hi.elf,another hart|0 0 0 0|115||unfinished/
 hi.elf,whole,--region,0x20000:4096|0 0 0 0|0|hi/|exit 0/
+hi.elf,whole,--ring,4|0 0 0 0|0|hi/|exit 0/
+hi.elf,moved|0 0 0 0|0|hi/|exit 0/
+--generate,1|1 0 0 0|0|18000/|exit 0/
 --region=131072:0x1000,hi.elf,--,whole|0 0 0 0|0|hi/|exit 0/
 branch.elf,whole|0 0 0 0|115|hi/|unfinished/
 trap.elf,whole|0 0 0 0|118|hi/|trap 1 at 0x10020 value 0x10020/";
@@ -165,6 +169,7 @@ compressed.elf,whole|0 0 0 0|123||program elf 3 0/
 last-byte-cut.elf,whole|0 0 0 0|123||program elf 5 211/
 into-the-region.elf,whole|0 0 0 0|123||program image 5 0x10000/
 hi.elf,whole,--region,0x11000:4096|0 0 0 0|123||program image 4 0x11000/
+--generate,1,--region,0x11000:4096|0 0 0 0|123||program image 4 0x11000/
 hi.elf,no end|0 0 0 0|124||script line 2 fault 5/
 hi.elf,go|0 0 0 0|124||script line 1 fault 1/
 hi.elf,nowhere|0 0 0 0|124||script line 1 fault 3/
@@ -182,7 +187,10 @@ hi.elf,whole,--region|0 0 0 0|120||usage/
 hi.elf,whole,--region,0x20001:4096|0 0 0 0|120||usage/
 hi.elf,whole,--region,0x20000|0 0 0 0|120||usage/
 hi.elf,whole,--region,0x20000:8392704|0 0 0 0|120||usage/
-hi.elf,whole,--ring,4|0 0 0 0|120||usage/
+hi.elf,whole,--ring,0|0 0 0 0|120||usage/
+--generate,1001|0 0 0 0|120||usage/
+--generate,1,hi.elf,whole|0 0 0 0|120||usage/
+--generate,1|0 1 0 0|121||cannot read input/
 none.elf,whole|0 0 0 0|121||cannot read none.elf/
 hi.elf,none|0 0 0 0|121||cannot read none/
 hi.elf,whole|1 0 0 0|121||cannot read hi.elf/

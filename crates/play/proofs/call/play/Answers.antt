@@ -9,7 +9,7 @@ use Rattle.play.proofs.call.play.Goals as goal
 
 pub returns : goal.returns
 returns g c =
-    promised _ _ _ _ (runs_originally laws _) (one_decision laws one_result _)
+    promised _ _ _ _ (runs_originally laws (one_result c.one_plan.ensures) _) (one_decision laws (one_result c.one_plan.ensures) _)
     (delivered decision.play (decision.reading_of _) _
     (with_files g.F.Files c.decide-decision.new.files (with_input g.I.Source c.decide-decision.new.input (with_out g.O.Sink c.args.out.now (with_err g.E.Sink c.args.err.now no_device))))
     _ c.decide-decision.result _
