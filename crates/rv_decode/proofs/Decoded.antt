@@ -238,3 +238,8 @@ same_as_decoded w r reads only = by_cases r (decoded w) refl refl
     by_cases s (Some j) e k = only j (first-Some (Reads w) (readings w) j (sound w) k) ∙ sym k
     by_cases None None e k = e ∙ sym k
     by_cases (Some i) None e k = absurd (complete w i (first-None (readings w) k) (subst (λ o. IfSome o (Reads w)) e reads))
+
+-- what is decoded is read
+pub decoded_read : (w : ℕ) (i : Instr) → decoded w ≡ Some i → Reads w i
+unfolding decoded
+decoded_read w i e = first-Some (Reads w) (readings w) i (sound w) e
