@@ -1,7 +1,8 @@
 -- The names of statements: instructions have those of the manual's listing in lower case.
 use Rattle.std.specs.Prelude.{ℕ, true, false, List, [], ◌∷◌, Option, Some, None, if◌then◌else◌, codes}
-use Rattle.std.specs.Option.{option_map, option_or}
+use Rattle.std.specs.Option.{option_map}
 use Rattle.std.specs.Str.{bytes_eq}
+use Rattle.finite.specs.First.{first_of}
 use Rattle.rv_isa.specs.declared.instr.AluOp.{AluOp}
 use Rattle.rv_isa.specs.declared.instr.AluOp.TheVariants as alu
 use Rattle.rv_isa.specs.declared.instr.ImmOp.{ImmOp}
@@ -23,11 +24,6 @@ use Rattle.asm_text.specs.declared.keyword.Keyword.TheVariants as word
 abbrev pub lookup : {X : Type 0} → List (List ℕ × X) → List ℕ → Option X
 lookup [] name = None
 lookup (row ∷ rows) name = if bytes_eq name row.0 then Some row.1 else lookup rows name
-
--- the first that is there
-abbrev pub first_of : {X : Type 0} → List (Option X) → Option X
-first_of [] = None
-first_of (x ∷ xs) = option_or x (first_of xs)
 
 -- OP, without multiplication
 abbrev pub alu_names : List (List ℕ × AluOp)

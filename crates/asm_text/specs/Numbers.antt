@@ -1,19 +1,9 @@
 -- Numbers as operands write them.
-use Rattle.std.specs.Prelude.{ℕ, ◌+◌, ◌-◌, ◌*◌, ◌^◌, ℤ, pos, neg_ℤ, Bool, ◌==◌, ◌&&◌, ◌||◌, nat_lt, nat_le, min, List, length, drop, Option, Some, None, if◌then◌else◌}
-use Rattle.std.specs.List.{list_all, fold}
+use Rattle.std.specs.Prelude.{ℕ, ◌^◌, ℤ, pos, neg_ℤ, ◌==◌, ◌&&◌, nat_lt, min, List, length, drop, Option, Some, None, if◌then◌else◌}
+use Rattle.std.specs.List.{list_all}
 use Rattle.std.specs.Option.{option_map}
-use Rattle.texts.specs.Texts.{all_digits, value_of, is_digit}
+use Rattle.texts.specs.Texts.{all_digits, value_of, is_hex_digit, hex_value_of}
 use Rattle.asm_text.specs.Tokens.{byte_at}
-
--- 0 to 9, A to F, a to f
-abbrev pub is_hex_digit : ℕ → Bool
-is_hex_digit c = is_digit c || ((nat_le 65 c && nat_le c 70) || (nat_le 97 c && nat_le c 102))
-
-abbrev pub hex_digit_value : ℕ → ℕ
-hex_digit_value c = if nat_le c 57 then c - 48 else if nat_le c 70 then c - 55 else c - 87
-
-abbrev pub hex_value_of : List ℕ → ℕ
-hex_value_of ds = fold (λ n c. 16 * n + hex_digit_value c) 0 ds
 
 -- A number past all bounds counts as 2 ^ 65.
 abbrev pub capped : ℕ → ℕ

@@ -2,33 +2,13 @@
 
 ghost use Rattle.std.specs.Prelude.{◌≡◌, ◌≤◌, ◌^◌, true, IfSome};
 ghost use Rattle.std.specs.List.{list_all};
-ghost use Rattle.asm_text.specs.Numbers.{is_hex_digit, hex_digit_value, hex_value_of, capped, decimal_of, hex_of, number_of};
-ghost use Rattle.texts.specs.Texts.{all_digits, value_of};
+ghost use Rattle.asm_text.specs.Numbers.{capped, decimal_of, hex_of, number_of};
+ghost use Rattle.texts.specs.Texts.{all_digits, value_of, is_hex_digit, hex_value_of};
 
-use texts::all_digits;
+use texts::{all_digits, all_hex_digits, hex_digit_value};
 
 /// Numbers past all bounds count as this one, 2^65.
 const PAST_ALL: u128 = 1 << 65;
-
-fn all_hex_digits(digits: &[u8]) -> bool
-    ensures { result ≡ list_all is_hex_digit digits.now }
-{
-    digits.iter().all(|d| d.is_ascii_hexdigit())
-}
-
-fn hex_digit_value(digit: u8) -> u8
-    requires { is_hex_digit digit ≡ true }
-    ensures value { result ≡ hex_digit_value digit }
-    ensures small { result ≤ 15 }
-{
-    if digit <= b'9' {
-        digit - b'0'
-    } else if digit <= b'F' {
-        digit - b'A' + 10
-    } else {
-        digit - b'a' + 10
-    }
-}
 
 fn decimal_value(digits: &[u8]) -> u128
     requires { all_digits digits.now ≡ true }

@@ -9,8 +9,9 @@ ghost use Rattle.blocks.specs.Blocks.{aims_at, marks, is_start, first_at, run_to
 
 use crate::read::is_inside;
 use crate::run::Run;
-use crate::word::{Word, falls, push_word, target};
+use crate::word::{Word, falls, push_word};
 use image::ranges::Func;
+use image::targets::target;
 use oc_base::fault::NoMemory;
 use oc_base::items::Items;
 use rv_isa::instr::Instr;

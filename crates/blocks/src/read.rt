@@ -8,9 +8,10 @@ ghost use Rattle.blocks.specs.Words.{word_read, places_of, words_of};
 ghost use Rattle.blocks.specs.Faults.{overlaps, aim_fault, word_fault};
 
 use crate::fault::Unreadable;
-use crate::word::{Word, push_word, target};
+use crate::word::{Word, push_word};
 use image::picture::Image;
 use image::ranges::Func;
+use image::targets::target;
 use rv_decode::decode;
 use rv_isa::instr::Instr;
 use std::alloc::Global;

@@ -1,7 +1,6 @@
-//! Words of a function, and where they may go.
+//! Words of a function.
 
-ghost use Rattle.std.specs.Prelude.{◌≡◌, pos, neg_ℤ, ◌≤ℤ◌, [], ◌∷◌, ◌++◌, OnOk};
-ghost use Rattle.image.specs.Targets.{target};
+ghost use Rattle.std.specs.Prelude.{◌≡◌, [], ◌∷◌, ◌++◌, OnOk};
 ghost use Rattle.blocks.specs.Words.{falls_of};
 
 use oc_base::fault::NoMemory;
@@ -13,20 +12,6 @@ pub struct Word {
     pub at: u64,
     pub word: u32,
     pub instr: Instr,
-}
-
-/// Where a jump by `off` from `at` goes.
-#[tactic(auto, unfolding(image::specs::Targets::target))]
-pub fn target(at: u64, off: i32) -> u64
-    requires low { neg_ℤ (pos 1048576) ≤ℤ off }
-    requires high { off ≤ℤ pos 1048576 }
-    ensures { result ≡ target at off }
-{
-    if off < 0 {
-        at.wrapping_sub((-off) as u64)
-    } else {
-        at.wrapping_add(off as u64)
-    }
 }
 
 /// Whether the word after an instruction may come next by itself or by a return.

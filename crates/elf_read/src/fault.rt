@@ -4,7 +4,6 @@ ghost use Rattle.std.specs.Prelude.{◌≡◌};
 ghost use Rattle.elf_read.specs.declared.fault.ElfFault.TheVariants.{NoMemory};
 
 use oc_base::fault::NoMemory as OutOfMemory;
-use std::alloc::{AllocError, AllocFailed};
 use thiserror::Error;
 
 /// What is wrong with the bytes: the first of these that applies.
@@ -30,22 +29,6 @@ pub enum ElfFault {
     NoSymbols,
     #[error("out of memory")]
     NoMemory,
-}
-
-impl From<AllocError> for ElfFault {
-    ghost from_gives = { λ _ e. e ≡ NoMemory };
-
-    fn from(_e: AllocError) -> ElfFault {
-        ElfFault::NoMemory
-    }
-}
-
-impl<T: Drop> From<AllocFailed<T>> for ElfFault {
-    ghost from_gives = { λ _ e. e ≡ NoMemory };
-
-    fn from(_e: AllocFailed<T>) -> ElfFault {
-        ElfFault::NoMemory
-    }
 }
 
 impl From<OutOfMemory> for ElfFault {

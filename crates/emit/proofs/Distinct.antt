@@ -4,6 +4,7 @@ use Rattle.std.specs.Prelude.{Option, Some, None, ◌⊎◌, ◌&&◌, ◌||◌,
 use Rattle.std.specs.List.{flat_map, cons_option}
 use Rattle.std.proofs.lemmas.Bool.{eq-eqb, false≢true}
 use Rattle.std.proofs.lemmas.Option.{slice_get_within, get_or_from_slice_get}
+use Rattle.rv_isa.specs.Conditions.{opposite}
 use Rattle.rv_isa.specs.declared.instr.Cond.{Cond}
 use Rattle.rv_isa.specs.declared.instr.Instr.{Instr}
 use Rattle.rv_isa.specs.declared.instr.Instr.TheVariants as instr
@@ -20,12 +21,12 @@ use Rattle.blocks.proofs.Soundness.{sound, alone}
 use Rattle.plans.specs.declared.plan.Moved.{Moved}
 use Rattle.plans.specs.Orders.{is_among, repeats}
 use Rattle.layout.specs.declared.point.Point.TheVariants.{Start}
-use Rattle.layout.specs.Rows.{opposite}
 use Rattle.emit.specs.declared.entry.Made.{Made}
 use Rattle.emit.specs.declared.entry.Made.TheVariants.{Same, Branch, High, Low}
 use Rattle.emit.specs.declared.entry.To.TheVariants.{Over}
 use Rattle.emit.specs.declared.entry.Entry.{Entry}
-use Rattle.emit.specs.Entries.{Calls, within, start, mid, hop, is_next, branch_of, rendered, word_entries, fall, run_entries, first_of, runs_entries, in_order, is_far, function_entries, is_start, place}
+use Rattle.emit.specs.Entries.{Calls, aimed, start, mid, hop, is_next, branch_of, rendered, word_entries, fall, run_entries, first_from, runs_entries, in_order, is_far, function_entries, is_start, place}
+use Rattle.emit.proofs.Branches.{branch_cases}
 use Rattle.emit.proofs.Leading.{function_of, emitted}
 use Rattle.emit.proofs.Places.{Occurs, occurs_left, occurs_right, is_start-true, is_start-own}
 use Rattle.emit.proofs.Assembled.{IsReady, AreReady, no_func, moving}
@@ -114,28 +115,14 @@ abbrev Single : ℕ → List Entry → Type 0
 Single x es = (m : Made) × (rest : List Entry) × (es ≡ start x m ∷ rest) × NoStarts rest
 
 single_branch : (f : Func) (next : Option ℕ) (far : ℕ → Bool) (x : ℕ) (o : Cond) (rs1 rs2 t y : ℕ) → Single x (branch_of f next far x o rs1 rs2 t y)
-unfolding branch_of
-single_branch f next far x o rs1 rs2 t y = by_test (is_next next y) (is_next next t) (far t) (far y)
+single_branch f next far x o rs1 rs2 t y =
+    branch_cases (Single x) f next far x o rs1 rs2 t y (λ e. (_, _, refl, one t)) (λ e g. (_, _, refl, none_nil)) (λ e. (_, _, refl, one y)) (λ e g. (_, _, refl, none_nil)) (_, _, refl, two) (λ g. (_, _, refl, one y))
   where
     one : (z : ℕ) → NoStarts (hop f z ∷ [])
     one z = none_hop f z [] none_nil
 
     two : NoStarts (hop f t ∷ hop f y ∷ [])
     two = none_hop f t (hop f y ∷ []) (one y)
-
-    by_test : (falls takes l m : Bool) → Single x (if falls then
-        (if l then start x (Branch (opposite o) rs1 rs2 Over) ∷ hop f t ∷ [] else start x (Branch o rs1 rs2 (within f t)) ∷ [])
-        else (if takes then
-        (if m then start x (Branch o rs1 rs2 Over) ∷ hop f y ∷ [] else start x (Branch (opposite o) rs1 rs2 (within f y)) ∷ [])
-        else
-        (if l then start x (Branch (opposite o) rs1 rs2 Over) ∷ hop f t ∷ hop f y ∷ []
-        else start x (Branch o rs1 rs2 (within f t)) ∷ hop f y ∷ [])))
-    by_test true k true m = (_, _, refl, one t)
-    by_test true k false m = (_, _, refl, none_nil)
-    by_test false true l true = (_, _, refl, one y)
-    by_test false true l false = (_, _, refl, none_nil)
-    by_test false false true m = (_, _, refl, two)
-    by_test false false false m = (_, _, refl, one y)
 
 single_word : (c : Calls) (f : Func) (next : Option ℕ) (far : ℕ → Bool) (x w : ℕ) (i : Instr) → Single x (rendered c f next far x w i)
 single_word c f next far x w (instr.Branch o rs1 rs2 off) = single_branch f next far x o rs1 rs2 (target x off) (x + 4)
@@ -239,13 +226,13 @@ module _ (texts : List TextRange) (c : Calls) (f : Func) (rs : List Run) (far : 
   runs_range : (qs : List Run) (z : ℕ) → AllRuns qs → Occurs z (runs_entries c f far qs) → InSome z qs
   runs_range [] z h o = o
   runs_range (q ∷ qs) z h o =
-      elim (occurs_cases z (run_entries c f far (first_of qs) q) (runs_entries c f far qs) o) [ inl g ↦ inl (run_range (first_of qs) q z h.0 g) | inr g ↦ inr (runs_range qs z h.1 g) ]
+      elim (occurs_cases z (run_entries c f far (first_from qs) q) (runs_entries c f far qs) o) [ inl g ↦ inl (run_range (first_from qs) q z h.0 g) | inr g ↦ inr (runs_range qs z h.1 g) ]
 
   runs_distinct : (qs : List Run) → AllRuns qs → Clear qs → Distinct (runs_entries c f far qs)
   runs_distinct [] h k = tt
   runs_distinct (q ∷ qs) h k =
-      distinct_append (run_entries c f far (first_of qs) q) (runs_entries c f far qs) (run_distinct (first_of qs) q h.0) (runs_distinct qs h.1 k.1)
-      (λ x o p. k.0 x (run_range (first_of qs) q x h.0 o) (runs_range qs x h.1 p))
+      distinct_append (run_entries c f far (first_from qs) q) (runs_entries c f far qs) (run_distinct (first_from qs) q h.0) (runs_distinct qs h.1 k.1)
+      (λ x o p. k.0 x (run_range (first_from qs) q x h.0 o) (runs_range qs x h.1 p))
 
   -- ---- a function's blocks
   runs_end : (a : ℕ) (qs : List Run) (b : ℕ) → AreRuns texts f rs a qs b → a ≤ b

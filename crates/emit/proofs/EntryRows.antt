@@ -2,6 +2,7 @@
 use Rattle.std.proofs.Common.{◌≡◌, ◌≢◌, ℕ, ◌+◌, ◌==◌, Bool, true, false, List, [], ◌∷◌, ◌++◌, append_assoc, refl, sym, subst}
 use Rattle.std.specs.Prelude.{Option, Some, None, ℤ, if◌then◌else◌}
 use Rattle.std.proofs.lemmas.Bool.{eqb-true, eqb-false}
+use Rattle.rv_isa.specs.Conditions.{opposite}
 use Rattle.rv_isa.specs.declared.instr.Cond.{Cond}
 use Rattle.rv_isa.specs.declared.instr.Instr.{Instr}
 use Rattle.rv_isa.specs.declared.instr.Instr.TheVariants as instr
@@ -12,14 +13,15 @@ use Rattle.image.specs.declared.ranges.Func.{Func}
 use Rattle.image.specs.Aims.{is_inside}
 use Rattle.image.specs.Targets.{target, made_by}
 use Rattle.layout.specs.Points.{read}
-use Rattle.layout.specs.Rows.{IsKept, opposite}
+use Rattle.layout.specs.Rows.{IsKept}
 use Rattle.layout.proofs.TextRows.{read_is}
 use Rattle.emit.specs.declared.entry.To.{To}
 use Rattle.emit.specs.declared.entry.To.TheVariants.{Here, There, Over}
 use Rattle.emit.specs.declared.entry.Made.TheVariants.{Same, Jump, Branch, High, Low}
 use Rattle.emit.specs.declared.entry.Entry.{Entry}
+use Rattle.emit.proofs.Branches.{branch_cases}
 use Rattle.emit.proofs.Leading.{Leads, SiteAims, Aims}
-use Rattle.emit.specs.Entries.{Calls, called, called_by, second_word, second_by, within, start, mid, hop, is_next, branch_of, rendered}
+use Rattle.emit.specs.Entries.{Calls, called, called_by, second_word, second_by, aimed, start, mid, hop, is_next, branch_of, rendered}
 
 abbrev pub StandsAs : Point → ℕ → Type 0
 StandsAs (Start x) y = x ≡ y
@@ -75,7 +77,7 @@ module _ (text second : ℕ → Option ℕ) (known outside : ℕ → Type 0) whe
   rows_append [] ys rest p q = q
   rows_append (x ∷ xs) ys rest p q = (subst (EntryRow x) (sym (append_assoc xs ys rest)) p.0, rows_append xs ys rest p.1 q)
 
-  within_start : (f : Func) (y : ℕ) → Leads known outside f y → LeadsToStart (within f y) y
+  within_start : (f : Func) (y : ℕ) → Leads known outside f y → LeadsToStart (aimed f y) y
   within_start f y l = by_test (is_inside y f) l.here l.there
     where
       by_test : (b : Bool) → (b ≡ true → known y) → (b ≡ false → outside y) → LeadsToStart (if b then Here y else There y) y
@@ -87,38 +89,27 @@ module _ (text second : ℕ → Option ℕ) (known outside : ℕ → Type 0) whe
   start_leads rest (There z) y l = l
   start_leads rest Over y l = absurd l
 
-  within_leads : (f : Func) (y : ℕ) (rest : List Entry) → Leads known outside f y → LeadsTo rest (within f y) y
-  within_leads f y rest l = start_leads rest (within f y) y (within_start f y l)
+  aimed_leads : (f : Func) (y : ℕ) (rest : List Entry) → Leads known outside f y → LeadsTo rest (aimed f y) y
+  aimed_leads f y rest l = start_leads rest (aimed f y) y (within_start f y l)
 
   -- the words of rest begin with the block that comes next
   abbrev pub NextIs : List Entry → Option ℕ → Type 0
   NextIs rest next = (y : ℕ) → is_next next y ≡ true → Ahead rest y
 
   pub hop_row : (f : Func) (y : ℕ) (rest : List Entry) → Leads known outside f y → EntryRow (hop f y) rest
-  hop_row f y rest l = hops y (within f y) refl (within_start f y l)
+  hop_row f y rest l = hops y (aimed f y) refl (within_start f y l)
 
   branch_rows : (f : Func) (next : Option ℕ) (far : ℕ → Bool) (x : ℕ) (c : Cond) (rs1 rs2 : ℕ) (off : ℤ) (rest : List Entry)
       → read text x ≡ Some (instr.Branch c rs1 rs2 off) → Leads known outside f (target x off) → Leads known outside f (x + 4) → NextIs rest next
       → Rows (branch_of f next far x c rs1 rs2 (target x off) (x + 4)) rest
-  unfolding branch_of
-  branch_rows f next far x c rs1 rs2 off rest r t y n = by_test (is_next next (x + 4)) (is_next next (target x off)) (far (target x off)) (far (x + 4)) (n (x + 4)) (n (target x off))
-    where
-      by_test : (falls takes l m : Bool) → (falls ≡ true → Ahead rest (x + 4)) → (takes ≡ true → Ahead rest (target x off))
-          → Rows (if falls then
-          (if l then start x (Branch (opposite c) rs1 rs2 Over) ∷ hop f (target x off) ∷ [] else start x (Branch c rs1 rs2 (within f (target x off))) ∷ [])
-          else (if takes then
-          (if m then start x (Branch c rs1 rs2 Over) ∷ hop f (x + 4) ∷ [] else start x (Branch (opposite c) rs1 rs2 (within f (x + 4))) ∷ [])
-          else
-          (if l then start x (Branch (opposite c) rs1 rs2 Over) ∷ hop f (target x off) ∷ hop f (x + 4) ∷ []
-          else start x (Branch c rs1 rs2 (within f (target x off))) ∷ hop f (x + 4) ∷ []))) rest
-      by_test true takes true m h k = (branch_inverted x c rs1 rs2 off Over refl r (h refl) refl, (hop_row f (target x off) rest t, tt))
-      by_test true takes false m h k = (branch x c rs1 rs2 off (within f (target x off)) refl r (within_leads f (target x off) rest t) (h refl), tt)
-      by_test false true l true h k = (branch x c rs1 rs2 off Over refl r (k refl) refl, (hop_row f (x + 4) rest y, tt))
-      by_test false true l false h k = (branch_inverted x c rs1 rs2 off (within f (x + 4)) refl r (within_leads f (x + 4) rest y) (k refl), tt)
-      by_test false false true m h k =
-          (branch_inverted x c rs1 rs2 off Over refl r refl refl, (hop_row f (target x off) (hop f (x + 4) ∷ rest) t, (hop_row f (x + 4) rest y, tt)))
-      by_test false false false m h k =
-          (branch x c rs1 rs2 off (within f (target x off)) refl r (within_leads f (target x off) (hop f (x + 4) ∷ rest) t) refl, (hop_row f (x + 4) rest y, tt))
+  branch_rows f next far x c rs1 rs2 off rest r t y n =
+      branch_cases (λ es. Rows es rest) f next far x c rs1 rs2 (target x off) (x + 4)
+      (λ e. (branch_inverted x c rs1 rs2 off Over refl r (n (x + 4) e) refl, (hop_row f (target x off) rest t, tt)))
+      (λ e g. (branch x c rs1 rs2 off (aimed f (target x off)) refl r (aimed_leads f (target x off) rest t) (n (x + 4) e), tt))
+      (λ e. (branch x c rs1 rs2 off Over refl r (n (target x off) e) refl, (hop_row f (x + 4) rest y, tt)))
+      (λ e g. (branch_inverted x c rs1 rs2 off (aimed f (x + 4)) refl r (aimed_leads f (x + 4) rest y) (n (target x off) e), tt))
+      (branch_inverted x c rs1 rs2 off Over refl r refl refl, (hop_row f (target x off) (hop f (x + 4) ∷ rest) t, (hop_row f (x + 4) rest y, tt)))
+      (λ g. (branch x c rs1 rs2 off (aimed f (target x off)) refl r (aimed_leads f (target x off) (hop f (x + 4) ∷ rest) t) refl, (hop_row f (x + 4) rest y, tt)))
 
   -- what comes after the words of i, where the next block is next
   abbrev pub Continues : List Entry → Option ℕ → ℕ → Instr → Type 0
@@ -136,7 +127,7 @@ module _ (text second : ℕ → Option ℕ) (known outside : ℕ → Type 0) whe
       by_test true h k = (kept x w (instr.Auipc rd imm) refl t r (h refl) a, tt)
       by_test false h k = (address x rd imm rest refl refl (read_is text x w _ t r) (k refl) a, (middle x rd (made_by x imm) refl, tt))
 
-  called_leads : (c : Calls) (f : Func) (x y : ℕ) → Leads known outside f y → SiteAims known outside c x y → LeadsToStart (called c x (within f y)) y
+  called_leads : (c : Calls) (f : Func) (x y : ℕ) → Leads known outside f y → SiteAims known outside c x y → LeadsToStart (called c x (aimed f y)) y
   called_leads c f x y l a = by_site (c.site x) a.is a.moved a.stays
     where
       by_moved : (g : ℕ) (b : Bool) → y ≡ g → (b ≡ true → known g) → outside g → LeadsToStart (if b then Here g else There g) y
@@ -144,7 +135,7 @@ module _ (text second : ℕ → Option ℕ) (known outside : ℕ → Type 0) whe
       by_moved g false e k o = (sym e, subst outside (sym e) o)
 
       by_site : (s : Option ℕ) → ((g : ℕ) → s ≡ Some g → y ≡ g) → ((g : ℕ) → s ≡ Some g → c.moved g ≡ true → known g) → ((g : ℕ) → s ≡ Some g → outside g)
-          → LeadsToStart (called_by c s (within f y)) y
+          → LeadsToStart (called_by c s (aimed f y)) y
       by_site None e k o = within_start f y l
       by_site (Some g) e k o = by_moved g (c.moved g) (e g refl) (k g refl) (o g refl)
 
@@ -165,7 +156,7 @@ module _ (text second : ℕ → Option ℕ) (known outside : ℕ → Type 0) whe
       → Continues rest next x i → Rows (rendered c f next far x w i) rest
   word_rows c f next far x w (instr.Auipc rd imm) rest t r a k = address_rows f next x w rd imm rest t r k
   word_rows c f next far x w (instr.Jal rd off) rest t r a k =
-      (jump x rd off (called c x (within f (target x off))) refl (read_is text x w _ t r) (called_leads c f x (target x off) a.0 a.1) k, tt)
+      (jump x rd off (called c x (aimed f (target x off))) refl (read_is text x w _ t r) (called_leads c f x (target x off) a.0 a.1) k, tt)
   word_rows c f next far x w (instr.Jalr rd rs off) rest t r a k = (second_rows c x w rd rs off rest t r a k, tt)
   word_rows c f next far x w (instr.Branch o rs1 rs2 off) rest t r a k =
       branch_rows f next far x o rs1 rs2 off rest (read_is text x w _ t r) a.0 a.1 k

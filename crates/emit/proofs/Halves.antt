@@ -3,6 +3,7 @@ use Rattle.std.proofs.Common.{◌≡◌, ℕ, zero, suc, ◌+◌, ◌==◌, Bool
 use Rattle.std.specs.Prelude.{Option, Some, None, slice_get, ◌&&◌, if◌then◌else◌}
 use Rattle.std.specs.List.{flat_map}
 use Rattle.std.proofs.lemmas.Option.{slice_get_within, slice_get-get_or}
+use Rattle.rv_isa.specs.Conditions.{opposite}
 use Rattle.rv_isa.specs.declared.instr.Cond.{Cond}
 use Rattle.rv_isa.specs.declared.instr.Instr.{Instr}
 use Rattle.rv_isa.specs.declared.instr.Instr.TheVariants as instr
@@ -12,11 +13,11 @@ use Rattle.blocks.specs.declared.word.Word.{Word}
 use Rattle.blocks.specs.declared.run.Run.{Run}
 use Rattle.layout.specs.declared.point.Point.{Point}
 use Rattle.layout.specs.declared.point.Point.TheVariants.{Start, Hop, Mid}
-use Rattle.layout.specs.Rows.{opposite}
 use Rattle.emit.specs.declared.entry.To.TheVariants.{Over}
 use Rattle.emit.specs.declared.entry.Made.TheVariants.{Same, Branch, High, Low}
 use Rattle.emit.specs.declared.entry.Entry.{Entry}
-use Rattle.emit.specs.Entries.{Calls, within, start, mid, hop, is_next, branch_of, rendered, word_entries, fall, run_entries, first_of, runs_entries, is_far, function_entries}
+use Rattle.emit.specs.Entries.{Calls, aimed, start, mid, hop, is_next, branch_of, rendered, word_entries, fall, run_entries, first_from, runs_entries, is_far, function_entries}
+use Rattle.emit.proofs.Branches.{branch_cases}
 use Rattle.emit.proofs.Leading.{Moving, function_of, emitted}
 
 -- what stands before a word of this point, if it is a second one
@@ -34,22 +35,8 @@ half_append [] ys q h g = g q
 half_append (x ∷ xs) ys q h g = (h.0, half_append xs ys (Some x) h.1 g)
 
 half_branch : (f : Func) (next : Option ℕ) (far : ℕ → Bool) (x : ℕ) (o : Cond) (rs1 rs2 t y : ℕ) (q : Option Entry) → Halves q (branch_of f next far x o rs1 rs2 t y)
-unfolding branch_of
-half_branch f next far x o rs1 rs2 t y q = by_test (is_next next y) (is_next next t) (far t) (far y)
-  where
-    by_test : (falls takes l m : Bool) → Halves q (if falls then
-        (if l then start x (Branch (opposite o) rs1 rs2 Over) ∷ hop f t ∷ [] else start x (Branch o rs1 rs2 (within f t)) ∷ [])
-        else (if takes then
-        (if m then start x (Branch o rs1 rs2 Over) ∷ hop f y ∷ [] else start x (Branch (opposite o) rs1 rs2 (within f y)) ∷ [])
-        else
-        (if l then start x (Branch (opposite o) rs1 rs2 Over) ∷ hop f t ∷ hop f y ∷ []
-        else start x (Branch o rs1 rs2 (within f t)) ∷ hop f y ∷ [])))
-    by_test true k true m = (tt, (tt, tt))
-    by_test true k false m = (tt, tt)
-    by_test false true l true = (tt, (tt, tt))
-    by_test false true l false = (tt, tt)
-    by_test false false true m = (tt, (tt, (tt, tt)))
-    by_test false false false m = (tt, (tt, tt))
+half_branch f next far x o rs1 rs2 t y q =
+    branch_cases (Halves q) f next far x o rs1 rs2 t y (λ e. (tt, (tt, tt))) (λ e g. (tt, tt)) (λ e. (tt, (tt, tt))) (λ e g. (tt, tt)) (tt, (tt, (tt, tt))) (λ g. (tt, (tt, tt)))
 
 half_word : (c : Calls) (f : Func) (next : Option ℕ) (far : ℕ → Bool) (x w : ℕ) (i : Instr) (q : Option Entry) → Halves q (rendered c f next far x w i)
 half_word c f next far x w (instr.Branch o rs1 rs2 off) q = half_branch f next far x o rs1 rs2 (target x off) (x + 4) q
@@ -79,7 +66,7 @@ half_run c f far next r q = half_append (flat_map (word_entries c f far next) r.
 
 half_runs : (c : Calls) (f : Func) (far : ℕ → ℕ → Bool) (rs : List Run) (q : Option Entry) → Halves q (runs_entries c f far rs)
 half_runs c f far [] q = tt
-half_runs c f far (r ∷ rs) q = half_append (run_entries c f far (first_of rs) r) (runs_entries c f far rs) q (half_run c f far (first_of rs) r q) (half_runs c f far rs)
+half_runs c f far (r ∷ rs) q = half_append (run_entries c f far (first_from rs) r) (runs_entries c f far rs) q (half_run c f far (first_from rs) r q) (half_runs c f far rs)
 
 pub all_halves : (c : Calls) (ms : List Moving) (q : Option Entry) → Halves q (emitted c ms)
 unfolding function_entries

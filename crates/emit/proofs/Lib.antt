@@ -1,4 +1,5 @@
 pub mod Assembled
+pub mod Branches
 pub mod CallKinds
 pub mod Distinct
 pub mod Emission

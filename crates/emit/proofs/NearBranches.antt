@@ -3,6 +3,7 @@ use Rattle.std.proofs.Common.{◌≡◌, ℕ, zero, suc, ◌+◌, ◌==◌, Bool
 use Rattle.std.specs.Prelude.{Option, Some, None, ◌⊎◌, ◌&&◌, nat_le, slice_get, unwrap_or, option_and_then, if◌then◌else◌}
 use Rattle.std.specs.List.{flat_map, cons_option}
 use Rattle.std.proofs.lemmas.Bool.{and_parts, and_from, leb-true, le-leb}
+use Rattle.rv_isa.specs.Conditions.{opposite}
 use Rattle.rv_isa.specs.declared.instr.Cond.{Cond}
 use Rattle.rv_isa.specs.declared.instr.Instr.{Instr}
 use Rattle.rv_isa.specs.declared.instr.Instr.TheVariants as instr
@@ -23,15 +24,15 @@ use Rattle.plans.specs.Given.{IsPlanOf}
 use Rattle.layout.specs.Points.{second_of, start_of}
 use Rattle.layout.specs.declared.point.Point.{Point}
 use Rattle.layout.specs.declared.point.Point.TheVariants.{Start, Hop, Mid}
-use Rattle.layout.specs.Rows.{opposite}
 use Rattle.emit.specs.declared.entry.To.{To}
 use Rattle.emit.specs.declared.entry.To.TheVariants.{Here, There, Over}
 use Rattle.emit.specs.declared.entry.Made.{Made}
 use Rattle.emit.specs.declared.entry.Made.TheVariants.{Same, Jump, Branch, High, Low}
 use Rattle.emit.specs.declared.entry.Entry.{Entry}
-use Rattle.emit.specs.Entries.{Calls, calls_of, second_word, second_by, within, start, mid, hop, is_next, branch_of, rendered, word_entries, fall, run_entries, first_of, runs_entries, in_order, longest, is_far, function_entries, place, reaches, entries_of}
+use Rattle.emit.specs.Entries.{Calls, calls_of, second_word, second_by, aimed, start, mid, hop, is_next, branch_of, rendered, word_entries, fall, run_entries, first_from, runs_entries, in_order, longest, is_far, function_entries, place, reaches, entries_of}
 use Rattle.emit.specs.Placed.{IsNear, MadeNear, AreNear}
 use Rattle.emit.specs.Emitted.{plan_unreadable}
+use Rattle.emit.proofs.Branches.{branch_cases}
 use Rattle.emit.proofs.Leading.{function_of, emitted, IsOutside, AllBlocks, AllFunctions, StartsIn}
 use Rattle.emit.proofs.Places.{Occurs, occurs_left}
 use Rattle.emit.proofs.Ordered.{begins_in_order}
@@ -67,7 +68,7 @@ IsShort far rs x (There y) = ⊥
 IsShort far rs x Over = Unit {0}
 
 module _ (c : Calls) (f : Func) (rs : List Run) (far : ℕ → ℕ → Bool) (inside : (x y : ℕ) → far x y ≡ false → is_inside y f ≡ true) where
-  short_within : (x y : ℕ) → far x y ≡ false → BeginsInside f rs y → IsShort far rs x (within f y)
+  short_within : (x y : ℕ) → far x y ≡ false → BeginsInside f rs y → IsShort far rs x (aimed f y)
   short_within x y e b = by_test (is_inside y f) (inside x y e) refl
     where
       by_test : (i : Bool) → i ≡ true → is_inside y f ≡ i → IsShort far rs x (if i then Here y else There y)
@@ -75,22 +76,9 @@ module _ (c : Calls) (f : Func) (rs : List Run) (far : ℕ → ℕ → Bool) (in
       by_test false q s = absurd (cc)
 
   short_branch : (next : Option ℕ) (x : ℕ) (o : Cond) (rs1 rs2 t y : ℕ) → BeginsInside f rs t → BeginsInside f rs y → Forked (IsShort far rs) (branch_of f next (far x) x o rs1 rs2 t y)
-  unfolding branch_of
-  short_branch next x o rs1 rs2 t y bt by = by_test (is_next next y) (is_next next t) (far x t) (far x y) refl refl
-    where
-      by_test : (falls takes l m : Bool) → far x t ≡ l → far x y ≡ m → Forked (IsShort far rs) (if falls then
-          (if l then start x (Branch (opposite o) rs1 rs2 Over) ∷ hop f t ∷ [] else start x (Branch o rs1 rs2 (within f t)) ∷ [])
-          else (if takes then
-          (if m then start x (Branch o rs1 rs2 Over) ∷ hop f y ∷ [] else start x (Branch (opposite o) rs1 rs2 (within f y)) ∷ [])
-          else
-          (if l then start x (Branch (opposite o) rs1 rs2 Over) ∷ hop f t ∷ hop f y ∷ []
-          else start x (Branch o rs1 rs2 (within f t)) ∷ hop f y ∷ [])))
-      by_test true k true m e g = (tt, (tt, tt))
-      by_test true k false m e g = (short_within x t e bt, tt)
-      by_test false true l true e g = (tt, (tt, tt))
-      by_test false true l false e g = (short_within x y g by, tt)
-      by_test false false true m e g = (tt, (tt, (tt, tt)))
-      by_test false false false m e g = (short_within x t e bt, (tt, tt))
+  short_branch next x o rs1 rs2 t y bt by =
+      branch_cases (Forked (IsShort far rs)) f next (far x) x o rs1 rs2 t y (λ e. (tt, (tt, tt))) (λ e g. (short_within x t g bt, tt)) (λ e. (tt, (tt, tt))) (λ e g. (short_within x y g by, tt))
+      (tt, (tt, (tt, tt))) (λ g. (short_within x t g bt, (tt, tt)))
 
   second_short : (x rd w : ℕ) → IsForked (IsShort far rs) (Start x) (second_word c x rd w)
   second_short x rd w = by_second (c.second x)
@@ -147,7 +135,7 @@ module _ (c : Calls) (f : Func) (rs : List Run) (far : ℕ → ℕ → Bool) (in
         by_get : (g : Option Run) → slice_get qs o ≡ g → Forked (IsShort far rs) (runs_entries c f far (in_order qs order)) → Forked (IsShort far rs) (runs_entries c f far (cons_option g (in_order qs order)))
         by_get None e k = k
         by_get (Some r) e k =
-            forked_append (IsShort far rs) (run_entries c f far (first_of (in_order qs order)) r) (runs_entries c f far (in_order qs order)) (short_run (first_of (in_order qs order)) r (run_found a qs b o r h e)) k
+            forked_append (IsShort far rs) (run_entries c f far (first_from (in_order qs order)) r) (runs_entries c f far (in_order qs order)) (short_run (first_from (in_order qs order)) r (run_found a qs b o r h e)) k
 
 -- ---- reach
 far_inside : (c : Calls) (f : Func) (rs : List Run) (x y : ℕ) → is_far c f rs x y ≡ false → (is_inside y f ≡ true) × (reaches (place x (longest c f rs)) (place y (longest c f rs)) ≡ true)

@@ -10,7 +10,7 @@ use Rattle.emit.specs.declared.entry.Entry.{Entry}
 use Rattle.blocks.specs.declared.word.Word.{Word}
 use Rattle.blocks.specs.declared.run.Run.{Run}
 use Rattle.blocks.specs.Sound.{Begins}
-use Rattle.emit.specs.Entries.{Calls, rendered, word_entries, fall, run_entries, first_of, runs_entries, is_far, function_entries}
+use Rattle.emit.specs.Entries.{Calls, rendered, word_entries, fall, run_entries, first_from, runs_entries, is_far, function_entries}
 use Rattle.emit.proofs.Leading.{Moving, function_of, emitted, IsRun, IsBlock, AllBlocks, AllFunctions, StartsIn}
 use Rattle.emit.proofs.EntryRows.{Rows, rows_append}
 use Rattle.emit.proofs.RunRows.{rendered_first, runs_rows}
@@ -42,10 +42,10 @@ module _ (text second : ℕ → Option ℕ) (known outside : ℕ → Type 0) (c 
   pub runs_occur : (f : Func) (far : ℕ → ℕ → Bool) (rs : List Run) (y : ℕ) → AllBlocks text second known outside c f rs → Begins rs y → Occurs y (runs_entries c f far rs)
   runs_occur f far [] y b o = absurd o
   runs_occur f far (r ∷ rs) y b (inl p) =
-      occurs_left y (run_entries c f far (first_of rs) r) (runs_entries c f far rs)
-      (subst (λ (n : ℕ). Occurs n (run_entries c f far (first_of rs) r)) p (run_occurs f far (first_of rs) r b.0))
+      occurs_left y (run_entries c f far (first_from rs) r) (runs_entries c f far rs)
+      (subst (λ (n : ℕ). Occurs n (run_entries c f far (first_from rs) r)) p (run_occurs f far (first_from rs) r b.0))
   runs_occur f far (r ∷ rs) y b (inr p) =
-      occurs_right y (run_entries c f far (first_of rs) r) (runs_entries c f far rs) (runs_occur f far rs y b.1 p)
+      occurs_right y (run_entries c f far (first_from rs) r) (runs_entries c f far rs) (runs_occur f far rs y b.1 p)
 
   pub starts_occur : (ms : List Moving) (y : ℕ) → AllFunctions text second known outside c ms → StartsIn ms y → Occurs y (emitted c ms)
   unfolding function_entries

@@ -3,42 +3,29 @@ use Rattle.std.proofs.Common.{◌≡◌, ◌≢◌, ℕ, ◌+◌, ◌==◌, Bool
 use Rattle.std.specs.Prelude.{Option, ◌&&◌, if◌then◌else◌}
 use Rattle.std.specs.List.{flat_map}
 use Rattle.std.proofs.lemmas.Bool.{eqb-true}
+use Rattle.rv_isa.specs.Conditions.{opposite}
 use Rattle.rv_isa.specs.declared.instr.Instr.{Instr}
 use Rattle.rv_isa.specs.declared.instr.Instr.TheVariants as instr
 use Rattle.layout.specs.declared.point.Point.TheVariants.{Start}
 use Rattle.image.specs.declared.ranges.Func.{Func}
 use Rattle.image.specs.Targets.{target, made_by}
-use Rattle.layout.specs.Rows.{opposite}
 use Rattle.emit.specs.declared.entry.Made.TheVariants.{Same, Branch, High, Low}
 use Rattle.emit.specs.declared.entry.To.TheVariants.{Over}
 use Rattle.emit.specs.declared.entry.Entry.{Entry}
 use Rattle.blocks.specs.declared.word.Word.{Word}
 use Rattle.blocks.specs.declared.run.Run.{Run}
+use Rattle.emit.proofs.Branches.{branch_cases}
 use Rattle.emit.proofs.Leading.{Leads, IsWord, IsRun, IsBlock, AllBlocks}
-use Rattle.emit.specs.Entries.{Calls, within, start, mid, hop, is_next, branch_of, rendered, word_entries, fall, run_entries, first_of, runs_entries}
+use Rattle.emit.specs.Entries.{Calls, aimed, start, mid, hop, is_next, branch_of, rendered, word_entries, fall, run_entries, first_from, runs_entries}
 use Rattle.blocks.specs.Words.{falls_of}
 use Rattle.emit.proofs.EntryRows.{Ahead, Rows, rows_append, NextIs, hop_row, Continues, word_rows}
 
 -- the words of an instruction begin with its Start
 pub rendered_first : (c : Calls) (f : Func) (next : Option ℕ) (far : ℕ → Bool) (x w : ℕ) (i : Instr) (more : List Entry)
     → (e : Entry) × (es : List Entry) × (rendered c f next far x w i ++ more ≡ e ∷ es) × (e.point ≡ Start x)
-unfolding branch_of
-rendered_first c f next far x w (instr.Branch o rs1 rs2 off) more = by_test (is_next next (x + 4)) (is_next next (target x off)) (far (target x off)) (far (x + 4))
-  where
-    by_test : (falls takes l m : Bool)
-        → (e : Entry) × (es : List Entry) × ((if falls then
-        (if l then start x (Branch (opposite o) rs1 rs2 Over) ∷ hop f (target x off) ∷ [] else start x (Branch o rs1 rs2 (within f (target x off))) ∷ [])
-        else (if takes then
-        (if m then start x (Branch o rs1 rs2 Over) ∷ hop f (x + 4) ∷ [] else start x (Branch (opposite o) rs1 rs2 (within f (x + 4))) ∷ [])
-        else
-        (if l then start x (Branch (opposite o) rs1 rs2 Over) ∷ hop f (target x off) ∷ hop f (x + 4) ∷ []
-        else start x (Branch o rs1 rs2 (within f (target x off))) ∷ hop f (x + 4) ∷ []))) ++ more ≡ e ∷ es) × (e.point ≡ Start x)
-    by_test true t true m = (_, _, refl, refl)
-    by_test true t false m = (_, _, refl, refl)
-    by_test false true l true = (_, _, refl, refl)
-    by_test false true l false = (_, _, refl, refl)
-    by_test false false true m = (_, _, refl, refl)
-    by_test false false false m = (_, _, refl, refl)
+rendered_first c f next far x w (instr.Branch o rs1 rs2 off) more =
+    branch_cases (λ es. (e : Entry) × (rest : List Entry) × (es ++ more ≡ e ∷ rest) × (e.point ≡ Start x)) f next far x o rs1 rs2 (target x off) (x + 4)
+    (λ e. (_, _, refl, refl)) (λ e g. (_, _, refl, refl)) (λ e. (_, _, refl, refl)) (λ e g. (_, _, refl, refl)) (_, _, refl, refl) (λ g. (_, _, refl, refl))
 rendered_first c f next far x w (instr.Auipc rd imm) more = by_test (rd == 0)
   where
     by_test : (b : Bool) → (e : Entry) × (es : List Entry) × ((if b then start x (Same w) ∷ [] else start x (High rd (made_by x imm)) ∷ mid x (Low rd (made_by x imm)) ∷ []) ++ more ≡ e ∷ es) × (e.point ≡ Start x)
@@ -133,14 +120,14 @@ module _ (text second : ℕ → Option ℕ) (known outside : ℕ → Type 0) (c 
   run_ahead next r rest b =
       rw (append_assoc (flat_map (word_entries c f far next) r.words) (fall f next r) rest) (run_first next r.from r.words r.to r.falls (fall f next r ++ rest) b.words)
 
-  next_is : (rs : List Run) (rest : List Entry) → AllBlocks text second known outside c f rs → NextIs text second known outside (runs_entries c f far rs ++ rest) (first_of rs)
+  next_is : (rs : List Run) (rest : List Entry) → AllBlocks text second known outside c f rs → NextIs text second known outside (runs_entries c f far rs ++ rest) (first_from rs)
   next_is [] rest b = λ y e. absurd (cc)
   next_is (r ∷ rs) rest b = λ y e.
-      subst (λ (n : ℕ). Ahead ((run_entries c f far (first_of rs) r ++ runs_entries c f far rs) ++ rest) n) (eqb-true r.from y e)
-      (rw (append_assoc (run_entries c f far (first_of rs) r) (runs_entries c f far rs) rest) (run_ahead (first_of rs) r (runs_entries c f far rs ++ rest) b.0))
+      subst (λ (n : ℕ). Ahead ((run_entries c f far (first_from rs) r ++ runs_entries c f far rs) ++ rest) n) (eqb-true r.from y e)
+      (rw (append_assoc (run_entries c f far (first_from rs) r) (runs_entries c f far rs) rest) (run_ahead (first_from rs) r (runs_entries c f far rs ++ rest) b.0))
 
   pub runs_rows : (rs : List Run) (rest : List Entry) → AllBlocks text second known outside c f rs → Rows text second known outside (runs_entries c f far rs) rest
   runs_rows [] rest b = tt
   runs_rows (r ∷ rs) rest b =
-      rows_append text second known outside (run_entries c f far (first_of rs) r) (runs_entries c f far rs) rest
-      (run_rows (first_of rs) r (runs_entries c f far rs ++ rest) b.0 (next_is rs rest b.1)) (runs_rows rs rest b.1)
+      rows_append text second known outside (run_entries c f far (first_from rs) r) (runs_entries c f far rs) rest
+      (run_rows (first_from rs) r (runs_entries c f far rs ++ rest) b.0 (next_is rs rest b.1)) (runs_rows rs rest b.1)

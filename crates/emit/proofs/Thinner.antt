@@ -3,18 +3,18 @@ use Rattle.std.proofs.Common.{◌≡◌, ℕ, ◌+◌, ◌<◌, ◌≤◌, Bool,
 use Rattle.std.specs.Prelude.{Option, nat_le, if◌then◌else◌}
 use Rattle.std.specs.List.{flat_map}
 use Rattle.std.proofs.lemmas.Bool.{and_parts, and_from, leb-true, le-leb, cases_lt}
+use Rattle.rv_isa.specs.Conditions.{opposite}
 use Rattle.rv_isa.specs.declared.instr.Cond.{Cond}
 use Rattle.rv_isa.specs.declared.instr.Instr.{Instr}
 use Rattle.rv_isa.specs.declared.instr.Instr.TheVariants as instr
 use Rattle.image.specs.declared.ranges.Func.{Func}
 use Rattle.image.specs.Targets.{target}
-use Rattle.layout.specs.Rows.{opposite}
 use Rattle.emit.specs.declared.entry.To.TheVariants.{Over}
 use Rattle.emit.specs.declared.entry.Made.TheVariants.{Same, Branch}
 use Rattle.emit.specs.declared.entry.Entry.{Entry}
 use Rattle.blocks.specs.declared.word.Word.{Word}
 use Rattle.blocks.specs.declared.run.Run.{Run}
-use Rattle.emit.specs.Entries.{Calls, within, start, hop, is_next, branch_of, rendered, word_entries, fall, run_entries, first_of, runs_entries, is_start, place, reaches}
+use Rattle.emit.specs.Entries.{Calls, aimed, start, hop, is_next, branch_of, rendered, word_entries, fall, run_entries, first_from, runs_entries, is_start, place, reaches}
 
 -- the points of es are those of ds, without some Hops
 pub data Thinned : List Entry → List Entry → Type 0 where
@@ -86,24 +86,24 @@ unfolding branch_of
 thin_branch f next far x o rs1 rs2 t y = by_test (is_next next y) (is_next next t) (far t) (far y)
   where
     by_test : (falls takes l m : Bool) → Thinned (if falls then
-        (if l then start x (Branch (opposite o) rs1 rs2 Over) ∷ hop f t ∷ [] else start x (Branch o rs1 rs2 (within f t)) ∷ [])
+        (if l then start x (Branch (opposite o) rs1 rs2 Over) ∷ hop f t ∷ [] else start x (Branch o rs1 rs2 (aimed f t)) ∷ [])
         else (if takes then
-        (if m then start x (Branch o rs1 rs2 Over) ∷ hop f y ∷ [] else start x (Branch (opposite o) rs1 rs2 (within f y)) ∷ [])
+        (if m then start x (Branch o rs1 rs2 Over) ∷ hop f y ∷ [] else start x (Branch (opposite o) rs1 rs2 (aimed f y)) ∷ [])
         else
         (if l then start x (Branch (opposite o) rs1 rs2 Over) ∷ hop f t ∷ hop f y ∷ []
-        else start x (Branch o rs1 rs2 (within f t)) ∷ hop f y ∷ [])))
+        else start x (Branch o rs1 rs2 (aimed f t)) ∷ hop f y ∷ [])))
         (if falls then start x (Branch (opposite o) rs1 rs2 Over) ∷ hop f t ∷ []
         else (if takes then start x (Branch o rs1 rs2 Over) ∷ hop f y ∷ []
         else start x (Branch (opposite o) rs1 rs2 Over) ∷ hop f t ∷ hop f y ∷ []))
     by_test true k true m = thin_same (start x (Branch (opposite o) rs1 rs2 Over) ∷ hop f t ∷ [])
     by_test true k false m =
-        keeps (start x (Branch o rs1 rs2 (within f t))) (start x (Branch (opposite o) rs1 rs2 Over)) [] (hop f t ∷ []) refl (drops (hop f t) [] [] (λ z. refl) ends)
+        keeps (start x (Branch o rs1 rs2 (aimed f t))) (start x (Branch (opposite o) rs1 rs2 Over)) [] (hop f t ∷ []) refl (drops (hop f t) [] [] (λ z. refl) ends)
     by_test false true l true = thin_same (start x (Branch o rs1 rs2 Over) ∷ hop f y ∷ [])
     by_test false true l false =
-        keeps (start x (Branch (opposite o) rs1 rs2 (within f y))) (start x (Branch o rs1 rs2 Over)) [] (hop f y ∷ []) refl (drops (hop f y) [] [] (λ z. refl) ends)
+        keeps (start x (Branch (opposite o) rs1 rs2 (aimed f y))) (start x (Branch o rs1 rs2 Over)) [] (hop f y ∷ []) refl (drops (hop f y) [] [] (λ z. refl) ends)
     by_test false false true m = thin_same (start x (Branch (opposite o) rs1 rs2 Over) ∷ hop f t ∷ hop f y ∷ [])
     by_test false false false m =
-        keeps (start x (Branch o rs1 rs2 (within f t))) (start x (Branch (opposite o) rs1 rs2 Over)) (hop f y ∷ []) (hop f t ∷ hop f y ∷ []) refl
+        keeps (start x (Branch o rs1 rs2 (aimed f t))) (start x (Branch (opposite o) rs1 rs2 Over)) (hop f y ∷ []) (hop f t ∷ hop f y ∷ []) refl
         (drops (hop f t) (hop f y ∷ []) (hop f y ∷ []) (λ z. refl) (thin_same (hop f y ∷ [])))
 
 thin_word : (c : Calls) (f : Func) (next : Option ℕ) (far : ℕ → Bool) (x w : ℕ) (i : Instr) → Thinned (rendered c f next far x w i) (rendered c f next (λ z. true) x w i)
@@ -128,5 +128,5 @@ module _ (c : Calls) (f : Func) (far : ℕ → ℕ → Bool) where
   pub thin_runs : (rs : List Run) → Thinned (runs_entries c f far rs) (runs_entries c f (λ x y. true) rs)
   thin_runs [] = ends
   thin_runs (r ∷ rs) =
-      thin_append (run_entries c f far (first_of rs) r) (run_entries c f (λ x y. true) (first_of rs) r) (runs_entries c f far rs) (runs_entries c f (λ x y. true) rs)
-      (thin_run (first_of rs) r) (thin_runs rs)
+      thin_append (run_entries c f far (first_from rs) r) (run_entries c f (λ x y. true) (first_from rs) r) (runs_entries c f far rs) (runs_entries c f (λ x y. true) rs)
+      (thin_run (first_from rs) r) (thin_runs rs)

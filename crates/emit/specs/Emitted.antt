@@ -33,7 +33,7 @@ unreadable_as g why = fault.Unreadable g why
 abbrev pub part_fault : Picture → Moved → Option EmitFault
 part_fault p m = option_map (unreadable_as m.func) (fault_of p m.func)
 
--- why a function has no words; want of memory has no cause
+-- why a function has no words; out of memory has no cause
 abbrev pub IsFault : Picture → ℕ → EmitFault → Type 0
 IsFault p g (fault.Unreadable h why) = (h ≡ g) × (fault_of p g ≡ Some why)
 IsFault p g (fault.BranchReach at target) = ⊥
@@ -42,13 +42,13 @@ IsFault p g fault.NoMemory = Unit {0}
 unfoldable pub plan_unreadable : Picture → List Moved → Option EmitFault
 plan_unreadable p parts = first_of (map (part_fault p) parts)
 
--- why there is no layout of the plan at the base; want of memory has no cause
+-- why there is no layout of the plan at the base; out of memory has no cause
 abbrev pub Explains : Picture → List Moved → ℕ → EmitFault → Type 0
 Explains p parts base (fault.Unreadable g why) = plan_unreadable p parts ≡ Some (fault.Unreadable g why)
 Explains p parts base (fault.BranchReach at target) = (plan_unreadable p parts ≡ None) × IsFirstOut base (entries_of p parts) at target
 Explains p parts base fault.NoMemory = Unit {0}
 
--- why a plan has no size; want of memory has no cause
+-- why a plan has no size; out of memory has no cause
 abbrev pub ExplainsSize : Picture → List Moved → EmitFault → Type 0
 ExplainsSize p parts (fault.Unreadable g why) = plan_unreadable p parts ≡ Some (fault.Unreadable g why)
 ExplainsSize p parts (fault.BranchReach at target) = ⊥

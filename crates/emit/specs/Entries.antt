@@ -3,6 +3,7 @@
 use Rattle.std.specs.Prelude.{ℕ, ◌+◌, ◌==◌, nat_le, Bool, true, false, not, ◌&&◌, List, [], ◌∷◌, ◌++◌, Option, Some, None, slice_get, if◌then◌else◌}
 use Rattle.std.specs.List.{flat_map, filter_map, list_any}
 use Rattle.std.specs.Option.{option_and_then}
+use Rattle.rv_isa.specs.Conditions.{opposite}
 use Rattle.rv_isa.specs.declared.instr.Cond.{Cond}
 use Rattle.rv_isa.specs.declared.instr.Instr.{Instr}
 use Rattle.rv_isa.specs.declared.instr.Instr.TheVariants as instr
@@ -17,7 +18,6 @@ use Rattle.plans.specs.declared.plan.Moved.{Moved}
 use Rattle.layout.specs.declared.point.Point.{Point}
 use Rattle.layout.specs.declared.point.Point.TheVariants.{Start, Hop, Mid}
 use Rattle.layout.specs.Points.{site_of, second_of, start_of}
-use Rattle.layout.specs.Rows.{opposite}
 use Rattle.emit.specs.declared.entry.To.{To}
 use Rattle.emit.specs.declared.entry.To.TheVariants.{Here, There, Over}
 use Rattle.emit.specs.declared.entry.Made.{Made}
@@ -51,8 +51,8 @@ calls_of p parts = record {
 
 -- ---- words
 -- where a jump to y goes: to its Start in the layout, where y is in the function at hand, else to the original address
-abbrev pub within : Func → ℕ → To
-within f y = if is_inside y f then Here y else There y
+abbrev pub aimed : Func → ℕ → To
+aimed f y = if is_inside y f then Here y else There y
 
 abbrev pub start : ℕ → Made → Entry
 start x m = record { point = Start x; made = m }
@@ -61,7 +61,7 @@ abbrev pub mid : ℕ → Made → Entry
 mid x m = record { point = Mid x; made = m }
 
 abbrev pub hop : Func → ℕ → Entry
-hop f y = record { point = Hop y; made = Jump 0 (within f y) }
+hop f y = record { point = Hop y; made = Jump 0 (aimed f y) }
 
 -- the block that comes next begins at y
 abbrev pub is_next : Option ℕ → ℕ → Bool
@@ -89,20 +89,20 @@ unfoldable pub branch_of : Func → Option ℕ → (ℕ → Bool) → ℕ → Co
 branch_of f next far x c rs1 rs2 t y =
     if is_next next y then
     (if far t then start x (Branch (opposite c) rs1 rs2 Over) ∷ hop f t ∷ []
-    else start x (Branch c rs1 rs2 (within f t)) ∷ [])
+    else start x (Branch c rs1 rs2 (aimed f t)) ∷ [])
     else (if is_next next t then
     (if far y then start x (Branch c rs1 rs2 Over) ∷ hop f y ∷ []
-    else start x (Branch (opposite c) rs1 rs2 (within f y)) ∷ [])
+    else start x (Branch (opposite c) rs1 rs2 (aimed f y)) ∷ [])
     else
     (if far t then start x (Branch (opposite c) rs1 rs2 Over) ∷ hop f t ∷ hop f y ∷ []
-    else start x (Branch c rs1 rs2 (within f t)) ∷ hop f y ∷ []))
+    else start x (Branch c rs1 rs2 (aimed f t)) ∷ hop f y ∷ []))
 
 -- the word w at x, which reads as an instruction
 abbrev pub rendered : Calls → Func → Option ℕ → (ℕ → Bool) → ℕ → ℕ → Instr → List Entry
 rendered c f next far x w (instr.Auipc rd imm) =
     if rd == 0 then start x (Same w) ∷ []
     else start x (High rd (made_by x imm)) ∷ mid x (Low rd (made_by x imm)) ∷ []
-rendered c f next far x w (instr.Jal rd off) = start x (Jump rd (called c x (within f (target x off)))) ∷ []
+rendered c f next far x w (instr.Jal rd off) = start x (Jump rd (called c x (aimed f (target x off)))) ∷ []
 rendered c f next far x w (instr.Jalr rd rs off) = start x (second_word c x rd w) ∷ []
 rendered c f next far x w (instr.Branch k rs1 rs2 off) = branch_of f next far x k rs1 rs2 (target x off) (x + 4)
 rendered c f next far x w _ = start x (Same w) ∷ []
@@ -118,13 +118,13 @@ fall f next r = if r.falls && not (is_next next r.to) then hop f r.to ∷ [] els
 unfoldable pub run_entries : Calls → Func → (ℕ → ℕ → Bool) → Option ℕ → Run → List Entry
 run_entries c f far next r = flat_map (word_entries c f far next) r.words ++ fall f next r
 
-abbrev pub first_of : List Run → Option ℕ
-first_of [] = None
-first_of (r ∷ rs) = Some r.from
+abbrev pub first_from : List Run → Option ℕ
+first_from [] = None
+first_from (r ∷ rs) = Some r.from
 
 abbrev pub runs_entries : Calls → Func → (ℕ → ℕ → Bool) → List Run → List Entry
 runs_entries c f far [] = []
-runs_entries c f far (r ∷ rs) = run_entries c f far (first_of rs) r ++ runs_entries c f far rs
+runs_entries c f far (r ∷ rs) = run_entries c f far (first_from rs) r ++ runs_entries c f far rs
 
 -- ---- short and long branches
 abbrev pub is_start : ℕ → Point → Bool

@@ -14,7 +14,7 @@ use crate::entry::{Entry, Made, To};
 use crate::fault::EmitFault;
 use crate::starts::gather;
 use rv_decode::one_reading;
-use rv_encode::{OutOfReach, branch_to, encode, jal_to};
+use rv_encode::{HIGH_COUNT, HIGH_UNIT, LOW_HALF, OutOfReach, branch_to, encode, jal_to};
 use rv_isa::fields::{Imm12, Imm20, Reg};
 use rv_isa::instr::{Cond, ImmOp, Instr};
 use std::alloc::Global;
@@ -30,22 +30,26 @@ fn ahead(a: u64, v: u64) -> u64
 fn in_reach(a: u64, v: u64) -> bool
     ensures { IsTrue result ↔ InReach a v }
 {
-    let far = ahead(a, v).wrapping_add(2048);
+    let far = ahead(a, v).wrapping_add(LOW_HALF);
     far < 1 << 31 || far >= 0xffff_ffff_8000_0000
 }
 
 fn high(a: u64, v: u64) -> Imm20
     ensures { result ≡ high_of a v }
 {
-    let high = ahead(a, v).wrapping_add(2048) / 4096 % (1 << 20);
+    let high = ahead(a, v).wrapping_add(LOW_HALF) / HIGH_UNIT % HIGH_COUNT;
     Imm20::new(high as i32).unwrap()
 }
 
 fn low(a: u64, v: u64) -> Imm12
     ensures { result ≡ low_of a v }
 {
-    let low = (ahead(a, v) % 4096) as i32;
-    let signed = if low < 2048 { low } else { low - 4096 };
+    let low = ahead(a, v) % HIGH_UNIT;
+    let signed = if low < LOW_HALF {
+        low as i32
+    } else {
+        low as i32 - HIGH_UNIT as i32
+    };
     Imm12::new(signed).unwrap()
 }
 

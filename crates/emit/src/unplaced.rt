@@ -3,15 +3,15 @@
 ghost use Rattle.std.specs.Prelude.{◌≡◌, ◌++◌, [], ◌∷◌, ℕ, ◌+◌, ◌<◌, ◌^◌, Bool, OnOk, ◌==◌, All, length, if◌then◌else◌};
 ghost use Rattle.std.specs.List.{flat_map};
 ghost use Rattle.image.specs.Targets.{made_by};
-ghost use Rattle.emit.specs.Entries.{calls_of, within, hop, start, mid, is_next, branch_of, rendered, word_entries, called, second_word, fall, run_entries, first_of, runs_entries, in_order};
+ghost use Rattle.emit.specs.Entries.{calls_of, aimed, hop, start, mid, is_next, branch_of, rendered, word_entries, called, second_word, fall, run_entries, first_from, runs_entries, in_order};
 
 use crate::calls::CallTable;
 use crate::entry::{Entry, Made, To};
 use blocks::run::Run;
-use blocks::word::{Word, target};
+use blocks::word::Word;
 use image::ranges::Func;
+use image::targets::{made_by, target};
 use layout::point::Point;
-use layout::targets::{made_by, opposite};
 use oc_base::fault::NoMemory;
 use rv_isa::fields::{Imm20, Reg};
 use rv_isa::instr::{Cond, Instr};
@@ -84,8 +84,8 @@ fn second_word(c: &CallTable, x: u64, rd: Reg, word: u32) -> Made
     }
 }
 
-fn within(f: &Func, y: u64) -> To
-    ensures { result ≡ within f.now y }
+fn aimed(f: &Func, y: u64) -> To
+    ensures { result ≡ aimed f.now y }
 {
     if f.from <= y && y < f.to {
         To::Here(y)
@@ -101,7 +101,7 @@ fn hop(f: &Func, y: u64) -> Entry
         point: Point::Hop(y),
         made: Made::Jump {
             rd: Reg::new(0).unwrap(),
-            to: within(f, y),
+            to: aimed(f, y),
         },
     }
 }
@@ -153,11 +153,11 @@ fn push_branch<F: Far>(
 {
     if is_next(next, b.falls) {
         if far.far(b.x, b.taken) {
-            out.push(branch(b, opposite(b.cond), To::Over))?;
+            out.push(branch(b, b.cond.opposite(), To::Over))?;
             out.push(hop(f, b.taken))?;
             return Ok(());
         }
-        out.push(branch(b, b.cond, within(f, b.taken)))?;
+        out.push(branch(b, b.cond, aimed(f, b.taken)))?;
         return Ok(());
     }
     if is_next(next, b.taken) {
@@ -166,16 +166,16 @@ fn push_branch<F: Far>(
             out.push(hop(f, b.falls))?;
             return Ok(());
         }
-        out.push(branch(b, opposite(b.cond), within(f, b.falls)))?;
+        out.push(branch(b, b.cond.opposite(), aimed(f, b.falls)))?;
         return Ok(());
     }
     if far.far(b.x, b.taken) {
-        out.push(branch(b, opposite(b.cond), To::Over))?;
+        out.push(branch(b, b.cond.opposite(), To::Over))?;
         out.push(hop(f, b.taken))?;
         out.push(hop(f, b.falls))?;
         return Ok(());
     }
-    out.push(branch(b, b.cond, within(f, b.taken)))?;
+    out.push(branch(b, b.cond, aimed(f, b.taken)))?;
     out.push(hop(f, b.falls))?;
     Ok(())
 }
@@ -231,7 +231,7 @@ fn push_word<F: Far>(
                 w.at,
                 Made::Jump {
                     rd,
-                    to: called(c, w.at, within(f, target(w.at, off.get()))),
+                    to: called(c, w.at, aimed(f, target(w.at, off.get()))),
                 },
             ))?;
             Ok(())
@@ -292,7 +292,7 @@ fn push_fall(out: &mut Vec<Entry>, f: &Func, next: Option<u64>, r: &Run) -> Resu
     }
     let made = Made::Jump {
         rd: Reg::new(0).unwrap(),
-        to: within(f, r.to),
+        to: aimed(f, r.to),
     };
     out.push(Entry {
         point: Point::Hop(r.to),
@@ -319,9 +319,9 @@ fn push_run<F: Far>(
 }
 
 /// Where the first of some blocks in an order begins.
-fn first_of(runs: &[Run], order: &[u32]) -> Option<u64>
+fn first_from(runs: &[Run], order: &[u32]) -> Option<u64>
     requires { All (λ o. o < length runs.now) order.now }
-    ensures { result ≡ first_of (in_order runs.now order.now) }
+    ensures { result ≡ first_from (in_order runs.now order.now) }
 {
     if order.is_empty() {
         return None;
@@ -341,7 +341,7 @@ pub fn push_runs<F: Far>(
     let runs = m.runs;
     let order = m.order;
     for i in 0..order.len() {
-        let next = first_of(runs, &order[i + 1..]);
+        let next = first_from(runs, &order[i + 1..]);
         push_run(out, c, &m.func, next, far, &runs[order[i] as usize])?;
     }
     Ok(())

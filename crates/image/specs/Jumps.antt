@@ -6,9 +6,9 @@ use Rattle.rv_isa.specs.declared.instr.Instr.TheVariants.{Auipc, Jal, Jalr, Bran
 use Rattle.image.specs.Targets.{target, made_by}
 
 -- where an instruction at a goes, if it is a JAL
-abbrev pub call_of : ℕ → Instr → Option ℕ
-call_of a (Jal rd off) = Some (target a off)
-call_of a _ = None
+abbrev pub jal_goes_to : ℕ → Instr → Option ℕ
+jal_goes_to a (Jal rd off) = Some (target a off)
+jal_goes_to a _ = None
 
 -- where an instruction at a goes, if it is a JAL or a branch
 abbrev pub goes_to : ℕ → Instr → Option ℕ
@@ -28,7 +28,7 @@ low_of _ = None
 
 -- where the word w at a goes, if it reads as a JAL
 unfoldable pub jal_target : ℕ → ℕ → Option ℕ
-jal_target w a = option_and_then (call_of a) (decoded w)
+jal_target w a = option_and_then (jal_goes_to a) (decoded w)
 
 -- where the word w at a goes, if it reads as a JAL or a branch
 unfoldable pub direct_target : ℕ → ℕ → Option ℕ

@@ -4,4 +4,5 @@
 pub mod funcs;
 pub mod picture;
 pub mod ranges;
+pub mod targets;
 pub mod texts;

@@ -166,21 +166,21 @@ impl Image {
         self.funcs.as_slice()
     }
 
-    /// Direct calls that may be aimed anew, at their JAL.
+    /// Direct calls that may be retargeted, at their JAL.
     pub fn sites(&self) -> &[Aim]
         ensures { result.now ≡ self.now.sites }
     {
         self.sites.as_slice()
     }
 
-    /// Far calls that may be aimed anew, at their AUIPC.
+    /// Far calls that may be retargeted, at their AUIPC.
     pub fn pairs(&self) -> &[Aim]
         ensures { result.now ≡ self.now.pairs }
     {
         self.pairs.as_slice()
     }
 
-    /// Stored addresses of functions that may be aimed anew.
+    /// Stored addresses of functions that may be retargeted.
     pub fn slots(&self) -> &[Aim]
         ensures { result.now ≡ self.now.slots }
     {

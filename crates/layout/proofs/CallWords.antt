@@ -12,7 +12,7 @@ use Rattle.rv_isa.specs.declared.instr.Instr.TheVariants as instr
 use Rattle.image.specs.declared.ranges.TextRange.{TextRange}
 use Rattle.image.specs.declared.ranges.Func.{Func}
 use Rattle.image.specs.declared.ranges.Aim.{Aim}
-use Rattle.image.specs.Jumps.{call_of, low_of, high_of, sum_of, jal_target, far_target}
+use Rattle.image.specs.Jumps.{jal_goes_to, low_of, high_of, sum_of, jal_target, far_target}
 use Rattle.image.specs.Texts.{text_end, covers, word_in, word_at, word_after}
 use Rattle.image.specs.Aims.{func_from, aim_place, site_at, pair_at, far_call_at, is_inner}
 use Rattle.image.specs.Picture.{Picture, IsText, IsKept}
@@ -121,7 +121,7 @@ pub record IsJalr (p : Picture) (x : ℕ) : Type 0 where
   pub stands : word_at p.texts x ≡ Some word
   pub reads : decoded word ≡ Some (instr.Jalr rd rs off)
 
-jal_of : (a t : ℕ) (i : Instr) → call_of a i ≡ Some t → (rd : ℕ) × (off : ℤ) × (i ≡ instr.Jal rd off)
+jal_of : (a t : ℕ) (i : Instr) → jal_goes_to a i ≡ Some t → (rd : ℕ) × (off : ℤ) × (i ≡ instr.Jal rd off)
 jal_of a t (instr.Jal rd off) e = (rd, off, refl)
 jal_of a t i e = absurd (cc)
 
@@ -132,7 +132,7 @@ jalr_of l i e = absurd (cc)
 target_jal : (w a t : ℕ) → jal_target w a ≡ Some t → (rd : ℕ) × (off : ℤ) × (decoded w ≡ Some (instr.Jal rd off))
 unfolding jal_target
 target_jal w a t e =
-    let i = bound (decoded w) (call_of a) t e in
+    let i = bound (decoded w) (jal_goes_to a) t e in
     let j = jal_of a t i.0 i.2 in
     (j.0, j.1, i.1 ∙ ap Some j.2)
 

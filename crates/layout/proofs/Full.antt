@@ -6,6 +6,7 @@ use Rattle.std.proofs.lemmas.Bool.{eqb-true, eq-eqb, and_from, or_left, false≢
 use Rattle.std.proofs.lemmas.Option.{slice_get-get_or}
 use Rattle.std.proofs.lemmas.List.Elements.{All-contains}
 use Rattle.std.proofs.lemmas.List.Quantifiers.{position-Some}
+use Rattle.rv_isa.specs.Conditions.{opposite}
 use Rattle.rv_isa.specs.Decoded.{decoded}
 use Rattle.rv_isa.specs.declared.instr.Cond.{Cond}
 use Rattle.rv_isa.specs.declared.instr.Cond.TheVariants.{Eq, Ne, Lt, Ge, Ltu, Geu}
@@ -23,7 +24,7 @@ use Rattle.layout.specs.declared.point.Point.{Point}
 use Rattle.layout.specs.declared.point.Point.TheVariants.{Start, Mid}
 use Rattle.layout.specs.Laid.{Laid, IsLaid, item_at, point_in}
 use Rattle.layout.specs.Points.{StandsFor, at_start, at_hop, read, aim_func, site_of, start_of}
-use Rattle.layout.specs.Rows.{opposite, Near, Next, AimsAt, MovedRow, StartRow, HopRow, no_word, unread, kept, address_in_place, address_moved, jump, site, jump_register, call_second, branch, branch_inverted}
+use Rattle.layout.specs.Rows.{Near, Next, AimsAt, MovedRow, StartRow, HopRow, no_word, unread, kept, address_in_place, address_moved, jump, site, jump_register, call_second, branch, branch_inverted}
 use Rattle.layout.specs.Rows as rows
 use Rattle.layout.specs.Alone.{InRegion}
 use Rattle.layout.specs.Tests.{same_cond, is_mid, stands, starts, returns, kept_test, sum_test, moved_test, jump_test, starts_at, second_test, branch_test, row_test}

@@ -1,9 +1,9 @@
 -- How the words now render the original ones: one case for each kind of original word, each about one address alone.
 -- Source: this project.
 use Rattle.std.specs.Prelude.{◌≡◌, ◌≢◌, ◌+◌, ◌⊎◌, ℕ, ℤ, Some, None, IsSome}
+use Rattle.rv_isa.specs.Conditions.{opposite}
 use Rattle.rv_isa.specs.Decoded.{decoded}
 use Rattle.rv_isa.specs.declared.instr.Cond.{Cond}
-use Rattle.rv_isa.specs.declared.instr.Cond.TheVariants.{Eq, Ne, Lt, Ge, Ltu, Geu}
 use Rattle.rv_isa.specs.declared.instr.ImmOp.TheVariants.{Addi}
 use Rattle.rv_isa.specs.declared.instr.Instr.{Instr}
 use Rattle.rv_isa.specs.declared.instr.Instr.TheVariants.{AluImm, Auipc, Jal, Jalr, Branch}
@@ -18,15 +18,6 @@ IsKept (Jal rd off) = ⊥
 IsKept (Jalr rd rs off) = ⊥
 IsKept (Branch c rs1 rs2 off) = ⊥
 IsKept _ = Unit {0}
-
--- the condition that holds exactly where this one doesn't
-abbrev pub opposite : Cond → Cond
-opposite Eq = Ne
-opposite Ne = Eq
-opposite Lt = Ge
-opposite Ge = Lt
-opposite Ltu = Geu
-opposite Geu = Ltu
 
 -- t is outside the region, or in the same layout as a
 abbrev pub Near : Code → (a t : ℕ) → Type 0

@@ -1,6 +1,7 @@
 -- Tests of one word of a layout that stands alone over the original text. That they tell the rows exactly is what `renders` ensures.
 use Rattle.std.specs.Prelude.{ℕ, ℤ, ◌+◌, ◌-◌, Bool, true, false, not, ◌==◌, ◌&&◌, ◌||◌, nat_le, List, Option, Some, None, is_some, position, if◌then◌else◌}
 use Rattle.std.specs.Option.{option_and_then}
+use Rattle.rv_isa.specs.Conditions.{opposite}
 use Rattle.rv_isa.specs.Decoded.{decoded}
 use Rattle.rv_isa.specs.declared.instr.Cond.{Cond}
 use Rattle.rv_isa.specs.declared.instr.Cond.TheVariants.{Eq, Ne, Lt, Ge, Ltu, Geu}
@@ -17,7 +18,6 @@ use Rattle.layout.specs.declared.point.Point.TheVariants.{Start, Hop, Mid}
 use Rattle.layout.specs.Laid.{Laid, item_at, point_in}
 use Rattle.layout.specs.Points.{site_of, second_of, start_of, in_range, read}
 use Rattle.layout.specs.Alone.{called_at}
-use Rattle.layout.specs.Rows.{opposite}
 
 abbrev pub same_cond : Cond → Cond → Bool
 same_cond Eq Eq = true

@@ -115,14 +115,14 @@ impl Layout {
         &self.points
     }
 
-    /// Direct calls that may be aimed anew, at their JAL.
+    /// Direct calls that may be retargeted, at their JAL.
     pub fn sites(&self) -> &[Aim]
         ensures { result.now ≡ self.now.sites }
     {
         &self.sites
     }
 
-    /// Far calls that may be aimed anew, at their second word.
+    /// Far calls that may be retargeted, at their second word.
     pub fn pairs(&self) -> &[Aim]
         ensures { result.now ≡ self.now.pairs }
     {

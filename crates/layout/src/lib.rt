@@ -6,4 +6,3 @@ pub mod layout;
 pub mod point;
 pub mod renders;
 mod rows;
-pub mod targets;

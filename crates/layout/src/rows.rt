@@ -11,8 +11,8 @@ ghost use Rattle.layout.specs.Tests.{same_cond, stands_as, starts_as, is_mid, po
 use crate::calls::{second_of, start_of};
 use crate::layout::Layout;
 use crate::point::Point;
-use crate::targets::{made_by, opposite, target};
 use image::picture::Image;
+use image::targets::{made_by, target};
 use rv_decode::decode;
 use rv_isa::fields::{Imm12, Imm20, OffB, OffJ, Reg};
 use rv_isa::instr::{Cond, ImmOp, Instr};
@@ -256,7 +256,7 @@ impl Alone<'_> {
                     && ((same_cond(*cond, b.cond)
                         && self.stands(to, taken)
                         && self.stands(at + 4, x + 4))
-                        || (same_cond(*cond, opposite(b.cond))
+                        || (same_cond(*cond, b.cond.opposite())
                             && self.stands(to, x + 4)
                             && self.stands(at + 4, taken)))
             }

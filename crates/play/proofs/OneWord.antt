@@ -4,7 +4,8 @@ use Rattle.std.specs.Option.{option_map, option_and_then}
 use Rattle.rv_isa.specs.Rows.{Field, Has, alu_row, imm_row, shift_row, branch_row, load_row, store_row, amo_row, lr_row, sc_row}
 use Rattle.rv_isa.specs.Instr.{IsStoreWidth}
 use Rattle.rv_isa.specs.Reads.{Reads, width_row}
-use Rattle.rv_isa.specs.Decoded.{has, row_in, where_has, where_is, first_of, readings, decoded, alu_ops, imm_ops, shift_ops, conditions, load_widths, store_widths, widths, amo_ops}
+use Rattle.finite.specs.First.{first_of}
+use Rattle.rv_isa.specs.Decoded.{has, row_in, where_has, where_is, readings, decoded, alu_ops, imm_ops, shift_ops, conditions, load_widths, store_widths, widths, amo_ops}
 use Rattle.rv_isa.specs.declared.instr.Instr.{Instr}
 use Rattle.rv_encode.proofs.OneWord.{one_word}
 

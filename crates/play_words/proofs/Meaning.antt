@@ -1,7 +1,6 @@
 -- What is found among the matches is what the words say.
 use Rattle.std.proofs.Common.{◌≡◌, ◌∙◌, ◌+◌, ◌==◌, ◌≤◌, ◌<◌, ◌^◌, ℕ, List, [], ◌∷◌, length, eqb, Bool, true, false, Option, Some, None, Bor, MatchOption, inl, inr, refl, sym, subst, ap, codes, arith, lit<}
 use Rattle.std.specs.List.{after_first, position_or_len}
-use Rattle.std.proofs.Math.Nat.{pow-le-pow_right}
 use Rattle.std.proofs.lemmas.Bool.{ne_eqb}
 use Rattle.std.proofs.lemmas.List.{drop_all}
 use Rattle.std.proofs.lemmas.Str.Pattern.{IsSplitOnceResult, split_once_first}
@@ -52,14 +51,6 @@ said words f o taken rows by = rw taken (ap words_in (sym rows) ∙ (sym (by_row
 pub unsaid : (words : List (List ℕ)) → is_taken words ≡ false → words_of words ≡ None
 unfolding words_of
 unsaid words refused = rw refused refl
-
--- ---- numbers
-
-pub seven_digits : (i : ℕ) → i < 8 → 16 ^ i ≤ 268435456
-seven_digits i few = pow-le-pow_right {n = 16} (lit< tt) {i = i} {j = 7} (omega arith)
-
-pub eight_digits : (i : ℕ) → i ≤ 8 → 16 ^ i ≤ 4294967296
-eight_digits i few = pow-le-pow_right {n = 16} (lit< tt) {i = i} {j = 8} few
 
 -- ---- the region
 

@@ -1,8 +1,7 @@
 -- Numbers of a command line, and the region that two of them give.
 use Rattle.std.specs.Prelude.{ℕ, ◌+◌, ◌%◌, Bool, ◌==◌, ◌&&◌, nat_lt, nat_le, List, length, drop, Option, Some, None, if◌then◌else◌}
 use Rattle.std.specs.List.{list_all, before_first, after_first, slice_index_or}
-use Rattle.texts.specs.Texts.{is_digit, value_of}
-use Rattle.asm_text.specs.Numbers.{is_hex_digit, hex_value_of}
+use Rattle.texts.specs.Texts.{is_digit, value_of, is_hex_digit, hex_value_of}
 use Rattle.oc_base.specs.declared.range.Range.{Range}
 
 -- the bytes of a page

@@ -29,7 +29,7 @@ fn command<'a>(alloc: Global) -> Result<Command<'a>, NoMemory>
     Ok(sized.arg(generate)?.arg(report)?)
 }
 
-/// What the words give the command. Every refusal of the library is `Usage`, help too, but for want of memory.
+/// What the words give the command. Every refusal of the library is `Usage`, help too, except out of memory.
 pub fn matches<'a>(alloc: Global, words: &'a [String]) -> Result<ArgMatches<'a>, WordsFault>
     ensures taken { OnOk result (is_taken (map string_bytes words.now) ≡ true) }
     ensures rows { IfOk result (λ m. rows_of (found_of m) ≡ matches_of command (map string_bytes words.now)) }

@@ -15,6 +15,7 @@ use clap::ArgMatches;
 use oc_base::range::Range;
 use oc_base::text::Text;
 use std::alloc::Global;
+use thiserror::Error;
 
 /// What is run.
 #[derive(Debug, Drop)]
@@ -38,11 +39,12 @@ pub struct Words {
 }
 
 /// Why words say nothing.
-#[derive(Clone, Copy, Debug, PartialEq, Eq)]
+#[derive(Clone, Copy, Debug, PartialEq, Eq, Error)]
 pub enum WordsFault {
     /// The words don't have the form that the program asks for.
+    #[error("usage")]
     Usage,
-    /// There was no room in memory.
+    #[error("out of memory")]
     NoMemory,
 }
 

@@ -4,7 +4,6 @@ ghost use Rattle.std.specs.Prelude.{◌≡◌};
 ghost use Rattle.relocs.specs.declared.fault.ImageFault.TheVariants.{NoMemory};
 
 use oc_base::fault::NoMemory as OutOfMemory;
-use std::alloc::{AllocError, AllocFailed};
 use thiserror::Error;
 
 /// What is wrong with an executable and a region: the first of these that applies, with its address.
@@ -27,22 +26,6 @@ pub enum ImageFault {
     RegionAimed(u64),
     #[error("out of memory")]
     NoMemory,
-}
-
-impl From<AllocError> for ImageFault {
-    ghost from_gives = { λ _ e. e ≡ NoMemory };
-
-    fn from(_e: AllocError) -> ImageFault {
-        ImageFault::NoMemory
-    }
-}
-
-impl<T: Drop> From<AllocFailed<T>> for ImageFault {
-    ghost from_gives = { λ _ e. e ≡ NoMemory };
-
-    fn from(_e: AllocFailed<T>) -> ImageFault {
-        ImageFault::NoMemory
-    }
 }
 
 impl From<OutOfMemory> for ImageFault {

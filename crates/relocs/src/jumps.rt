@@ -1,42 +1,15 @@
 //! Where the words that jump go.
 
-ghost use Rattle.std.specs.Prelude.{◌≡◌, ◌<◌, ◌^◌, pos, neg_ℤ, ◌≤ℤ◌, IfSome};
-ghost use Rattle.image.specs.Targets.{target, made_by};
-ghost use Rattle.image.specs.Jumps.{call_of, goes_to, jal_target, direct_target, far_target, high_of, low_of, sum_of};
+ghost use Rattle.std.specs.Prelude.{◌≡◌, ◌<◌, ◌^◌, IfSome};
+ghost use Rattle.image.specs.Jumps.{jal_goes_to, goes_to, jal_target, direct_target, far_target, high_of, low_of, sum_of};
 
+use image::targets::{made_by, target};
 use rv_decode::decode;
 use rv_isa::instr::Instr;
 
-/// Where a jump by `off` from `at` goes.
-#[tactic(auto, unfolding(image::specs::Targets::target))]
-fn target(at: u64, off: i32) -> u64
-    requires low { neg_ℤ (pos 1048576) ≤ℤ off }
-    requires high { off ≤ℤ pos 1048576 }
-    ensures { result ≡ target at off }
-{
-    if off < 0 {
-        at.wrapping_sub((-off) as u64)
-    } else {
-        at.wrapping_add(off as u64)
-    }
-}
-
-/// What an AUIPC at `at` makes.
-#[tactic(auto, unfolding(image::specs::Targets::made_by))]
-fn made_by(at: u64, high: u64) -> u64
-    requires { high < 2 ^ 20 }
-    ensures { result ≡ made_by at high }
-{
-    if high < 1 << 19 {
-        at.wrapping_add(4096 * high)
-    } else {
-        at.wrapping_sub((1 << 32) - 4096 * high)
-    }
-}
-
 /// Where an instruction goes that is a JAL.
-fn call_of(at: u64, i: &Instr) -> Option<u64>
-    ensures { result ≡ call_of at i.now }
+fn jal_goes_to(at: u64, i: &Instr) -> Option<u64>
+    ensures { result ≡ jal_goes_to at i.now }
 {
     match i {
         Instr::Jal { off, .. } => Some(target(at, off.get())),
@@ -55,6 +28,7 @@ fn goes_to(at: u64, i: &Instr) -> Option<u64>
     }
 }
 
+/// The register and the upper bits of an AUIPC.
 fn high_of(i: &Instr) -> Option<(u8, u32)>
     ensures is { result ≡ high_of i.now }
     ensures range { IfSome result (λ h. h.1 < 2 ^ 20) }
@@ -65,10 +39,9 @@ fn high_of(i: &Instr) -> Option<(u8, u32)>
     }
 }
 
+/// The register and the distance of a JALR.
 fn low_of(i: &Instr) -> Option<(u8, i32)>
-    ensures is { result ≡ low_of i.now }
-    ensures low { IfSome result (λ l. neg_ℤ (pos 2048) ≤ℤ l.1) }
-    ensures high { IfSome result (λ l. l.1 ≤ℤ pos 2047) }
+    ensures { result ≡ low_of i.now }
 {
     match i {
         Instr::Jalr { rs1, off, .. } => Some((rs1.get(), off.get())),
@@ -82,7 +55,7 @@ pub fn jal_target(word: u32, at: u64) -> Option<u64>
     ensures { result ≡ jal_target word at }
 {
     let i = decode(word)?;
-    call_of(at, &i)
+    jal_goes_to(at, &i)
 }
 
 /// Where a word goes that reads as a JAL or a branch.
@@ -108,9 +81,7 @@ pub fn far_target(first: u32, second: u32, at: u64) -> Option<u64>
 
 /// The sum that a JALR by the register of an AUIPC makes.
 fn sum_of(at: u64, high: (u8, u32), low: (u8, i32)) -> Option<u64>
-    requires range { high.1 < 2 ^ 20 }
-    requires low { neg_ℤ (pos 2048) ≤ℤ low.1 }
-    requires high { low.1 ≤ℤ pos 2047 }
+    requires { high.1 < 2 ^ 20 }
     ensures { result ≡ sum_of at high low }
 {
     if high.0 != 0 && low.0 == high.0 {

@@ -12,10 +12,16 @@ ghost use Rattle.relocs.specs.Regions.{highest_end, default_region, is_between, 
 
 use crate::jumps::direct_target;
 use elf_read::elf::{Section, Segment};
+use elf_read::{LOAD_END, LOAD_START};
 use image::ranges::TextRange;
 use oc_base::fault::NoMemory;
 use oc_base::range::Range;
 use std::alloc::Global;
+
+const PAGE: u64 = 4096;
+
+/// The size of a region that isn't given.
+const DEFAULT_SIZE: u64 = 524_288;
 
 /// The highest end of a segment.
 #[tactic(auto, unfolding(crate::specs::Regions::highest_end), using(crate::proofs::Regional::highest_more))]
@@ -31,16 +37,16 @@ fn highest_end(segments: &[Segment]) -> u64
     highest
 }
 
-/// 524288 bytes from 4096 past the highest end, which is rounded up to a page first.
+/// The region that isn't given: it begins a page past the highest end, which is rounded up to a page first.
 #[tactic(auto, unfolding(crate::specs::Regions::default_region))]
 pub fn default_region(segments: &[Segment]) -> Range
     requires { All IsSegment segments.now }
     ensures { result ≡ default_region segments.now }
 {
-    let from = highest_end(segments).div_ceil(4096) * 4096 + 4096;
+    let from = highest_end(segments).div_ceil(PAGE) * PAGE + PAGE;
     Range {
         from,
-        to: from + 524_288,
+        to: from + DEFAULT_SIZE,
     }
 }
 
@@ -119,10 +125,10 @@ fn taken_ranges(
     push_ends(&mut ranges, texts)?;
     ranges.push(Range {
         from: 0,
-        to: 0x1000,
+        to: LOAD_START,
     })?;
     ranges.push(Range {
-        from: 0x0800_0000,
+        from: LOAD_END,
         to: u64::MAX,
     })?;
     Ok(ranges)

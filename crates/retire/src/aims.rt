@@ -5,8 +5,8 @@ ghost use Rattle.rv_isa.specs.Decoded.{decoded};
 ghost use Rattle.retire.specs.References.{jump_of, aim_of, aims_of};
 
 use image::ranges::Aim;
+use image::targets::target;
 use layout::layout::Layout;
-use layout::targets::target;
 use oc_base::fault::NoMemory;
 use rv_decode::decode;
 use rv_isa::instr::Instr;

@@ -4,7 +4,8 @@ use Rattle.std.specs.Option.{option_map, option_and_then}
 use Rattle.rv_isa.specs.Rows.{Field, Has, alu_row, imm_row, shift_row, branch_row, load_row, store_row, amo_row, lr_row, sc_row}
 use Rattle.rv_isa.specs.Instr.{IsStoreWidth}
 use Rattle.rv_isa.specs.Reads.{Reads, width_row}
-use Rattle.rv_isa.specs.Decoded.{has, row_in, where_has, where_is, first_of, readings, decoded, alu_ops, imm_ops, shift_ops, conditions, load_widths, store_widths, widths, amo_ops}
+use Rattle.finite.specs.First.{first_of}
+use Rattle.rv_isa.specs.Decoded.{has, row_in, where_has, where_is, readings, decoded, alu_ops, imm_ops, shift_ops, conditions, load_widths, store_widths, widths, amo_ops}
 use Rattle.rv_isa.specs.declared.instr.AluOp.{AluOp}
 use Rattle.rv_isa.specs.declared.instr.AluOp.TheVariants as alu
 use Rattle.rv_isa.specs.declared.instr.ImmOp.{ImmOp}
@@ -237,3 +238,8 @@ same_as_decoded w r reads only = by_cases r (decoded w) refl refl
     by_cases s (Some j) e k = only j (first-Some (Reads w) (readings w) j (sound w) k) ∙ sym k
     by_cases None None e k = e ∙ sym k
     by_cases (Some i) None e k = absurd (complete w i (first-None (readings w) k) (subst (λ o. IfSome o (Reads w)) e reads))
+
+-- what is decoded is read
+pub decoded_read : (w : ℕ) (i : Instr) → decoded w ≡ Some i → Reads w i
+unfolding decoded
+decoded_read w i e = first-Some (Reads w) (readings w) i (sound w) e

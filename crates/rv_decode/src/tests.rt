@@ -181,7 +181,7 @@ fn stores(rt: HostRuntime) {
     }
 }
 
-/// `lr.w x18,(x19)` and `sc.w x20,x22,(x21)` in both widths and each order. The SC's word stands behind the LR's.
+/// `lr.w x18,(x19)` and `sc.w x20,x22,(x21)` in both widths and each order. The SC's word is after the LR's.
 #[test]
 fn reservations(rt: HostRuntime) {
     let cases = [

@@ -17,6 +17,21 @@ use rv_isa::fields::{OffB, OffJ, Reg};
 use rv_isa::instr::{Cond, Instr};
 use word::word;
 
+/// A JAL goes back by at most so many bytes, and ahead by 2 less.
+pub const JAL_REACH: u64 = 1 << 20;
+
+/// A branch goes back by at most so many bytes, and ahead by 2 less.
+pub const BRANCH_REACH: u64 = 1 << 12;
+
+/// What a LUI or an AUIPC adds for each unit of its upper bits.
+pub const HIGH_UNIT: u64 = 1 << 12;
+
+/// How many values the upper bits of a LUI or an AUIPC have.
+pub const HIGH_COUNT: u64 = 1 << 20;
+
+/// A signed number of 12 bits goes from `-LOW_HALF` to `LOW_HALF - 1`.
+pub const LOW_HALF: u64 = 1 << 11;
+
 /// A jump or branch can't go that far, or not to an odd distance.
 #[derive(Clone, Copy, Debug, PartialEq, Eq)]
 pub struct OutOfReach;

@@ -13,3 +13,12 @@ Holds Lt a b = signed 64 a <ℤ signed 64 b
 Holds Ge a b = signed 64 b ≤ℤ signed 64 a
 Holds Ltu a b = a < b
 Holds Geu a b = b ≤ a
+
+-- the condition that holds exactly where this one doesn't
+abbrev pub opposite : Cond → Cond
+opposite Eq = Ne
+opposite Ne = Eq
+opposite Lt = Ge
+opposite Ge = Lt
+opposite Ltu = Geu
+opposite Geu = Ltu

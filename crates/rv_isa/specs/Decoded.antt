@@ -4,6 +4,7 @@
 use Rattle.std.specs.Prelude.{ℕ, List, [], ◌∷◌, Bool, true, false, ◌==◌, ◌&&◌, Option, Some, None, if◌then◌else◌}
 use Rattle.std.specs.List.{find}
 use Rattle.std.specs.Option.{option_map, option_and_then}
+use Rattle.finite.specs.First.{first_of}
 use Rattle.rv_isa.specs.Word.{bits, rd_of, rs1_of, rs2_of, imm_i, imm_s, imm_b, imm_u, imm_j}
 use Rattle.rv_isa.specs.Rows.{Field, alu_row, imm_row, shift_row, lui_row, auipc_row, jal_row, jalr_row, branch_row, load_row, store_row, lr_row, sc_row, amo_row, fence_row}
 use Rattle.rv_isa.specs.Reads.{amount_of, width_row, order_of}
@@ -66,12 +67,6 @@ where_has w fields i = if has w fields then Some i else None
 unfoldable pub where_is : ℕ → ℕ → Instr → Option Instr
 where_is w word i = if w == word then Some i else None
 
--- the instruction of the first row that stands
-abbrev pub first_of : List (Option Instr) → Option Instr
-first_of [] = None
-first_of (None ∷ rest) = first_of rest
-first_of (Some i ∷ rest) = Some i
-
 -- what each class of instructions gives for a word
 unfoldable pub readings : ℕ → List (Option Instr)
 readings w =
@@ -93,6 +88,6 @@ readings w =
     ∷ where_is w 0x00100073 Ebreak
     ∷ []
 
--- the instruction that a word is, if it is one
+-- the instruction that a word is, if it is one: that of the first row that it has
 unfoldable pub decoded : ℕ → Option Instr
 decoded w = first_of (readings w)

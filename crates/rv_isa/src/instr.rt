@@ -1,6 +1,6 @@
 //! The instructions and their operations.
-ghost use Rattle.std.specs.Prelude.{◌↔◌, ℕ, IsTrue};
-ghost use Rattle.rv_isa.specs.Conditions.{Holds};
+ghost use Rattle.std.specs.Prelude.{◌≡◌, ◌↔◌, ℕ, IsTrue};
+ghost use Rattle.rv_isa.specs.Conditions.{Holds, opposite};
 ghost use Rattle.rv_isa.specs.Instr.{HasWord};
 
 use crate::fields::{Imm12, Imm20, OffB, OffJ, Reg, Shift};
@@ -213,8 +213,9 @@ impl Instr {
 
 impl Cond {
     /// The condition that holds exactly where this one doesn't.
-    pub fn inverted(self) -> Cond
-        ensures { (a b : ℕ) → Holds result a b ↔ (Holds self a b → ⊥) }
+    pub fn opposite(self) -> Cond
+        ensures is { result ≡ opposite self }
+        ensures holds { (a b : ℕ) → Holds result a b ↔ (Holds self a b → ⊥) }
     {
         match self {
             Cond::Eq => Cond::Ne,
@@ -289,9 +290,9 @@ mod tests {
             (Cond::Lt, Cond::Ge),
             (Cond::Ltu, Cond::Geu),
         ];
-        for (cond, opposite) in pairs {
-            assert_eq!(rt; cond.inverted(), opposite);
-            assert_eq!(rt; opposite.inverted(), cond);
+        for (cond, other) in pairs {
+            assert_eq!(rt; cond.opposite(), other);
+            assert_eq!(rt; other.opposite(), cond);
         }
     }
 }

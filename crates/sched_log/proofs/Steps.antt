@@ -11,7 +11,8 @@ use Rattle.std.proofs.Math.Seq.{take-append_seam, take-append-add}
 use Rattle.texts.specs.Texts.{lines_of}
 use Rattle.image.specs.Picture.{Picture}
 use Rattle.sched_log.specs.Lines.{line_of}
-use Rattle.sched_log.specs.Script.{when, first_of, is_end, count_of, event_of, kind_of, fault_at, no_end, script, fault_of, events_of}
+use Rattle.finite.specs.First.{first_of, when}
+use Rattle.sched_log.specs.Script.{is_end, count_of, event_of, kind_of, fault_at, no_end, script, fault_of, events_of}
 use Rattle.sched_log.specs.Limits.{end_missing}
 use Rattle.sched_log.specs.declared.line.Line.{Line}
 use Rattle.sched_log.specs.declared.line.Line.TheVariants.{Passed}

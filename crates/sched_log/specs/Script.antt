@@ -2,6 +2,7 @@
 use Rattle.std.specs.Prelude.{ℕ, ◌+◌, Bool, true, false, not, ◌&&◌, nat_lt, List, [], ◌∷◌, ◌++◌, length, map, take, get_or, Option, Some, None, if◌then◌else◌, sum_by, flat_map}
 use Rattle.std.specs.List.{list_any, range_with_len}
 use Rattle.std.specs.Option.{option_map}
+use Rattle.finite.specs.First.{first_of, when}
 use Rattle.texts.specs.Texts.{lines_of}
 use Rattle.sched_log.specs.Lines.{line_of}
 use Rattle.image.specs.Picture.{Picture}
@@ -50,15 +51,6 @@ count_of _ = 0
 abbrev pub own_fault : Line → Option ℕ
 own_fault (line.Wrong kind) = Some kind
 own_fault _ = None
-
-abbrev pub when : {X : Type 0} → Bool → X → Option X
-when b x = if b then Some x else None
-
--- the first that is there
-abbrev pub first_of : {X : Type 0} → List (Option X) → Option X
-first_of [] = None
-first_of (None ∷ rest) = first_of rest
-first_of (Some x ∷ rest) = Some x
 
 -- the kind of a line's fault, where an end comes before it or not, and the counts up to it have this sum
 unfoldable pub kind_of : Bool → (sum : ℕ) → Line → Option ℕ

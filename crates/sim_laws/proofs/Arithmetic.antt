@@ -3,7 +3,8 @@ use Rattle.std.proofs.Common.{◌≡◌, ℕ, suc, ◌+◌, ◌-◌, ◌*◌, �
 use Rattle.std.proofs.Common.{List, [], ◌∷◌, Option, Some, None, IfSome, subst}
 use Rattle.std.specs.Prelude.{ℤ, pos, negsuc, if◌then◌else◌}
 use Rattle.std.specs.Option.{option_map, option_and_then}
-use Rattle.rv_isa.specs.Decoded.{decoded, readings, first_of, where_has, where_is, row_in, alu_ops, imm_ops, shift_ops, conditions, load_widths, store_widths, widths, amo_ops}
+use Rattle.finite.specs.First.{first_of}
+use Rattle.rv_isa.specs.Decoded.{decoded, readings, where_has, where_is, row_in, alu_ops, imm_ops, shift_ops, conditions, load_widths, store_widths, widths, amo_ops}
 use Rattle.rv_isa.specs.Rows.{Field, alu_row, imm_row, shift_row, branch_row, load_row, store_row, amo_row}
 use Rattle.rv_isa.specs.Reads.{width_row}
 use Rattle.rv_isa.specs.declared.instr.Instr.{Instr}

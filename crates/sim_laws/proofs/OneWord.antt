@@ -5,6 +5,7 @@ use Rattle.std.specs.List.{list_any}
 use Rattle.std.proofs.lemmas.Bool.{eq-eqb, ne_eqb, and_right, and_from, false≢true}
 use Rattle.std.proofs.lemmas.List.{get_or-set_same, get_or-set_other}
 use Rattle.std.proofs.lemmas.Option.{same_Some}
+use Rattle.rv_isa.specs.Conditions.{opposite}
 use Rattle.rv_isa.specs.Decoded.{decoded}
 use Rattle.rv_isa.specs.declared.instr.ImmOp.TheVariants.{Addi}
 use Rattle.rv_isa.specs.declared.instr.Cond.{Cond}
@@ -27,7 +28,7 @@ use Rattle.hart.specs.Effects.{next, jump, effect_of, effect_on, hart_after}
 use Rattle.layout.specs.declared.point.Point.TheVariants.{Start, Hop, Mid}
 use Rattle.layout.specs.Points.{Code, StandsFor, at_start, at_hop, in_range, read}
 use Rattle.layout.specs.Rows as rows
-use Rattle.layout.specs.Rows.{IsKept, opposite, Next, AimsAt, MovedRow, StartRow, no_word, unread, kept, address_in_place, address_moved, jump_register, call_second, branch, branch_inverted, HopRow, Renders}
+use Rattle.layout.specs.Rows.{IsKept, Next, AimsAt, MovedRow, StartRow, no_word, unread, kept, address_in_place, address_moved, jump_register, call_second, branch, branch_inverted, HopRow, Renders}
 use Rattle.layout.proofs.TextWords.{text_high, text_whole, text_outside, aimed_outside, target_small}
 use Rattle.layout.proofs.TextRows.{read_is, read_back}
 use Rattle.layout.proofs.Full.{site_target}

@@ -5,6 +5,7 @@ use Rattle.std.specs.Prelude.{ℤ, pos, negsuc, nat_eq, nat_lt, int_lt, ◌==◌
 use Rattle.std.specs.List.{list_any}
 use Rattle.std.proofs.lemmas.Bool.{both_ways, eqb-true}
 use Rattle.finite.specs.Maps.{Places, contains_all}
+use Rattle.rv_isa.specs.Conditions.{opposite}
 use Rattle.rv_isa.specs.Word.{signed}
 use Rattle.rv_isa.specs.declared.instr.Cond.{Cond}
 use Rattle.rv_isa.specs.declared.instr.Cond.TheVariants.{Eq, Ne, Lt, Ge, Ltu, Geu}
@@ -29,7 +30,7 @@ use Rattle.hart.specs.declared.hart.Hart.{Hart}
 use Rattle.hart.specs.Harts.{reg, add64, moved_by, after, even, upper, block_of}
 use Rattle.hart.specs.Effects.{Effect, next, write, jump, link_use, unless_used, unless_refused, on_load, unless_link, if_held, is_taken, atomic_width, loading, storing, reserving, storing_if_held, exchanging, effect_on, effect_of}
 use Rattle.layout.specs.Points.{Code, StandsFor}
-use Rattle.layout.specs.Rows.{IsKept, opposite}
+use Rattle.layout.specs.Rows.{IsKept}
 use Rattle.machine.specs.Steps.{is_indirect}
 use Rattle.sim_laws.specs.Origins.{origin}
 use Rattle.sim_laws.specs.Codes.{IsCodeOf}

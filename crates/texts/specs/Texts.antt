@@ -1,5 +1,5 @@
--- Lines and decimal numbers of a text.
-use Rattle.std.specs.Prelude.{ℕ, ◌+◌, ◌-◌, ◌*◌, ◌^◌, Bool, ◌==◌, ◌&&◌, nat_lt, nat_le, List, [], length, take, Option, Some, None, if◌then◌else◌}
+-- Lines of a text, and numbers in decimal and hexadecimal digits.
+use Rattle.std.specs.Prelude.{ℕ, ◌+◌, ◌-◌, ◌*◌, ◌^◌, Bool, ◌==◌, ◌&&◌, ◌||◌, nat_lt, nat_le, List, [], length, take, Option, Some, None, if◌then◌else◌}
 use Rattle.std.specs.List.{slice_split, slice_index_or, list_all, fold}
 
 -- the parts, without a last one that is empty
@@ -20,6 +20,17 @@ all_digits ds = list_all is_digit ds
 -- the number that digits write
 abbrev pub value_of : List ℕ → ℕ
 value_of ds = fold (λ n c. 10 * n + (c - 48)) 0 ds
+
+-- the digits 0 to 9, A to F (the bytes 65 to 70) and a to f (97 to 102)
+abbrev pub is_hex_digit : ℕ → Bool
+is_hex_digit c = is_digit c || ((nat_le 65 c && nat_le c 70) || (nat_le 97 c && nat_le c 102))
+
+abbrev pub hex_digit_value : ℕ → ℕ
+hex_digit_value c = if nat_le c 57 then c - 48 else if nat_le c 70 then c - 55 else c - 87
+
+-- the number that hexadecimal digits write
+abbrev pub hex_value_of : List ℕ → ℕ
+hex_value_of ds = fold (λ n c. 16 * n + hex_digit_value c) 0 ds
 
 -- 1 to 10 digits of a number below 2 ^ 32
 abbrev pub is_number : List ℕ → Bool

@@ -1,9 +1,9 @@
-//! Texts as lists of bytes: the parts between marks, lines, and numbers in decimal.
+//! Texts as lists of bytes: the parts between marks, lines, and numbers in decimal and hexadecimal digits.
 #![tactic(auto)]
 
-ghost use Rattle.std.specs.Prelude.{◌≡◌, ◌==◌, ◌≤◌, length, true, map, IfOk};
-ghost use Rattle.std.specs.List.{slice_split};
-ghost use Rattle.texts.specs.Texts.{lines_of, number_of, value_of, all_digits};
+ghost use Rattle.std.specs.Prelude.{◌≡◌, ◌==◌, ◌≤◌, ◌<◌, ◌^◌, length, true, map, IfOk};
+ghost use Rattle.std.specs.List.{list_all, slice_split};
+ghost use Rattle.texts.specs.Texts.{lines_of, number_of, value_of, all_digits, is_hex_digit, hex_digit_value, hex_value_of};
 
 use oc_base::fault::NoMemory;
 use std::alloc::{AllocError, Global};
@@ -35,14 +35,53 @@ pub fn all_digits(bytes: &[u8]) -> bool
     bytes.iter().all(|b| b'0' <= *b && *b <= b'9')
 }
 
-fn value_of(digits: &[u8]) -> u64
+/// Whether every byte is a hexadecimal digit, of either case.
+pub fn all_hex_digits(bytes: &[u8]) -> bool
+    ensures { result ≡ list_all is_hex_digit bytes.now }
+{
+    bytes.iter().all(|b| b.is_ascii_hexdigit())
+}
+
+/// The number that a hexadecimal digit stands for.
+pub fn hex_digit_value(digit: u8) -> u8
+    requires { is_hex_digit digit ≡ true }
+    ensures value { result ≡ hex_digit_value digit }
+    ensures small { result < 16 }
+{
+    if digit <= b'9' {
+        digit - b'0'
+    } else if digit <= b'F' {
+        digit - b'A' + 10
+    } else {
+        digit - b'a' + 10
+    }
+}
+
+/// The number that at most 10 decimal digits write.
+pub fn value_of(digits: &[u8]) -> u64
     requires digits { all_digits digits.now ≡ true }
     requires short { length digits.now ≤ 10 }
-    ensures { result ≡ value_of digits.now }
+    ensures value { result ≡ value_of digits.now }
+    ensures small { result < 10 ^ 10 }
 {
     let mut value = 0;
     for d in digits {
         value = 10 * value + (*d - b'0') as u64;
+    }
+    value
+}
+
+/// The number that at most 8 hexadecimal digits write.
+#[tactic(auto, using(crate::proofs::HexDigits::seven_digits, crate::proofs::HexDigits::eight_digits))]
+pub fn hex_value_of(digits: &[u8]) -> u64
+    requires digits { list_all is_hex_digit digits.now ≡ true }
+    requires short { length digits.now ≤ 8 }
+    ensures value { result ≡ hex_value_of digits.now }
+    ensures small { result < 2 ^ 32 }
+{
+    let mut value = 0;
+    for d in digits {
+        value = 16 * value + hex_digit_value(*d) as u64;
     }
     value
 }

@@ -2,6 +2,7 @@
 #![tactic(auto)]
 
 pub mod reading;
+pub mod words;
 pub mod writing;
 
 /// The most bytes of an input.

@@ -3,6 +3,7 @@ use Rattle.std.proofs.Common.{◌≡◌, ℕ, zero, suc, ◌+◌, ◌%◌, ◌==
 use Rattle.std.specs.Prelude.{Option, Some, None, slice_get, All, ◌&&◌, if◌then◌else◌}
 use Rattle.std.specs.List.{flat_map, cons_option}
 use Rattle.std.proofs.lemmas.List.Elements.{All-nil, All-cons}
+use Rattle.rv_isa.specs.Conditions.{opposite}
 use Rattle.rv_isa.specs.declared.instr.Cond.{Cond}
 use Rattle.rv_isa.specs.declared.instr.Instr.{Instr}
 use Rattle.rv_isa.specs.declared.instr.Instr.TheVariants as instr
@@ -17,13 +18,13 @@ use Rattle.blocks.proofs.Soundness.{sound}
 use Rattle.plans.specs.declared.plan.Moved.{Moved}
 use Rattle.plans.specs.Given.{plan_fault}
 use Rattle.layout.specs.Laid.{Laid}
-use Rattle.layout.specs.Rows.{opposite}
 use Rattle.emit.specs.declared.entry.To.TheVariants.{Over}
 use Rattle.emit.specs.declared.entry.Made.TheVariants.{Same, Branch, High, Low}
 use Rattle.emit.specs.declared.entry.Entry.{Entry}
-use Rattle.emit.specs.Entries.{Calls, calls_of, entries_of, within, start, mid, hop, is_next, branch_of, rendered, word_entries, fall, run_entries, first_of, runs_entries, is_far, function_entries, in_order}
+use Rattle.emit.specs.Entries.{Calls, calls_of, entries_of, aimed, start, mid, hop, is_next, branch_of, rendered, word_entries, fall, run_entries, first_from, runs_entries, is_far, function_entries, in_order}
 use Rattle.emit.specs.Placed.{point_of}
 use Rattle.emit.specs.Emitted.{IsEmitted, plan_unreadable}
+use Rattle.emit.proofs.Branches.{branch_cases}
 use Rattle.emit.proofs.Leading.{Moving, function_of, emitted}
 use Rattle.emit.proofs.Assembled.{AreReady, ready, moving, entries_are}
 use Rattle.plans.proofs.Planned.{planned}
@@ -38,22 +39,8 @@ whole_append [] ys h g = g
 whole_append (x ∷ xs) ys h g = (h.0, whole_append xs ys h.1 g)
 
 whole_branch : (f : Func) (next : Option ℕ) (far : ℕ → Bool) (x : ℕ) (o : Cond) (rs1 rs2 t y : ℕ) → t % 4 ≡ 0 → y % 4 ≡ 0 → Wholes (branch_of f next far x o rs1 rs2 t y)
-unfolding branch_of
-whole_branch f next far x o rs1 rs2 t y a b = by_test (is_next next y) (is_next next t) (far t) (far y)
-  where
-    by_test : (falls takes l m : Bool) → Wholes (if falls then
-        (if l then start x (Branch (opposite o) rs1 rs2 Over) ∷ hop f t ∷ [] else start x (Branch o rs1 rs2 (within f t)) ∷ [])
-        else (if takes then
-        (if m then start x (Branch o rs1 rs2 Over) ∷ hop f y ∷ [] else start x (Branch (opposite o) rs1 rs2 (within f y)) ∷ [])
-        else
-        (if l then start x (Branch (opposite o) rs1 rs2 Over) ∷ hop f t ∷ hop f y ∷ []
-        else start x (Branch o rs1 rs2 (within f t)) ∷ hop f y ∷ [])))
-    by_test true k true m = (tt, (a, tt))
-    by_test true k false m = (tt, tt)
-    by_test false true l true = (tt, (b, tt))
-    by_test false true l false = (tt, tt)
-    by_test false false true m = (tt, (a, (b, tt)))
-    by_test false false false m = (tt, (b, tt))
+whole_branch f next far x o rs1 rs2 t y a b =
+    branch_cases Wholes f next far x o rs1 rs2 t y (λ e. (tt, (a, tt))) (λ e g. (tt, tt)) (λ e. (tt, (b, tt))) (λ e g. (tt, tt)) (tt, (a, (b, tt))) (λ g. (tt, (b, tt)))
 
 -- where a branch at x goes is a whole word
 abbrev AimsWhole : ℕ → Instr → Type 0
@@ -101,7 +88,7 @@ whole_run c f far next r h = whole_append (flat_map (word_entries c f far next) 
 
 whole_runs : (c : Calls) (f : Func) (far : ℕ → ℕ → Bool) (rs : List Run) → EachWhole rs → Wholes (runs_entries c f far rs)
 whole_runs c f far [] h = tt
-whole_runs c f far (r ∷ rs) h = whole_append (run_entries c f far (first_of rs) r) (runs_entries c f far rs) (whole_run c f far (first_of rs) r h.0) (whole_runs c f far rs h.1)
+whole_runs c f far (r ∷ rs) h = whole_append (run_entries c f far (first_from rs) r) (runs_entries c f far rs) (whole_run c f far (first_from rs) r h.0) (whole_runs c f far rs h.1)
 
 abbrev AllMoving : List Moving → Type 0
 AllMoving [] = Unit {0}

@@ -14,9 +14,9 @@ ghost use Rattle.world.specs.Fetching.{both, word_as, is_address, fetched_as, fe
 
 use crate::points::{Points, is_in, live_both};
 use image::picture::Image;
+use image::targets::{made_by, target};
 use layout::layout::Layout;
 use layout::point::Point;
-use layout::targets::{made_by, target};
 use link_tags::value::Value;
 use machine::machine::Machine;
 use oc_base::fault::NoMemory;

@@ -11,8 +11,8 @@ ghost use Rattle.world.specs.Retiring.{pc_of, link_number, register_links, pcs_o
 use hart::hart::{Hart, Status};
 use image::picture::Image;
 use image::ranges::Aim;
+use image::targets::target;
 use layout::layout::Layout;
-use layout::targets::target;
 use link_tags::value::{Tag, Value};
 use machine::machine::Machine;
 use oc_base::fault::NoMemory;

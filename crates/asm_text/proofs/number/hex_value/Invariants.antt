@@ -1,5 +1,6 @@
 use Rattle.std.proofs.Common.{◌≡◌, take}
-use Rattle.asm_text.specs.Numbers.{capped, hex_value_of}
+use Rattle.texts.specs.Texts.{hex_value_of}
+use Rattle.asm_text.specs.Numbers.{capped}
 use Rattle.asm_text.proofs.number.hex_value.Given as goal
 
 abbrev pub invariant-loop-d : goal.invariant-loop-d

@@ -1,6 +1,6 @@
 use Rattle.std.proofs.Common.{get_or, refl, ◌<◌, length, rules}
 use Rattle.emit.proofs.Ordered.{first_is}
-use Rattle.emit.proofs.unplaced.first_of.Goals as goal
+use Rattle.emit.proofs.unplaced.first_from.Goals as goal
 
 pub returns : goal.returns
 returns c =
