@@ -1,8 +1,8 @@
 //! The command that the words are read as.
 
 ghost use Rattle.std.specs.Prelude.{◌≡◌, ◌≢◌, IfOk, IfErr, OnOk, true, false, map, string_bytes};
-ghost use Rattle.clap.specs.Words.{app_of, matches_of, rows_of, found_of};
-ghost use Rattle.play_words.specs.Words.{command, is_taken};
+ghost use Rattle.clap.specs.Words.{app_of, with_rule, matches_of, rows_of, found_of};
+ghost use Rattle.play_words.specs.Words.{command, option, is_taken};
 ghost use Rattle.play_words.specs.declared.words.WordsFault.{WordsFault};
 
 use crate::words::WordsFault;
@@ -11,22 +11,33 @@ use clap::{Arg, ArgAction, ArgMatches, Command};
 use oc_base::fault::NoMemory;
 use std::alloc::Global;
 
+// The command with one more option, `--name`, that takes a value.
+fn with_option<'a>(
+    alloc: Global,
+    command: Command<'a>,
+    name: &'a str,
+) -> Result<Command<'a>, NoMemory>
+    ensures { IfOk result (λ c. app_of c ≡ with_rule (app_of command.entry) (option name.now)) }
+{
+    let arg = Arg::new(alloc, name).long(name);
+    Ok(command.arg(arg)?)
+}
+
 // Two positionals, three options and a flag.
 fn command<'a>(alloc: Global) -> Result<Command<'a>, NoMemory>
     ensures { IfOk result (λ c. app_of c ≡ command) }
 {
     let program = Arg::new(alloc, "program");
     let script = Arg::new(alloc, "script");
-    let region = Arg::new(alloc, "region").long("region");
-    let ring = Arg::new(alloc, "ring").long("ring");
-    let generate = Arg::new(alloc, "generate").long("generate");
     let report = Arg::new(alloc, "report")
         .long("report")
         .action(ArgAction::SetTrue);
     let play = Command::new(alloc, "ocolos_play").no_binary_name(true);
     let named = play.arg(program)?.arg(script)?;
-    let sized = named.arg(region)?.arg(ring)?;
-    Ok(sized.arg(generate)?.arg(report)?)
+    let placed = with_option(alloc, named, "region")?;
+    let recorded = with_option(alloc, placed, "ring")?;
+    let generated = with_option(alloc, recorded, "generate")?;
+    Ok(generated.arg(report)?)
 }
 
 /// What the words give the command. Every refusal of the library is `Usage`, help too, except out of memory.
