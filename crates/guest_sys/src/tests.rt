@@ -25,7 +25,7 @@ impl Origins for One {
     }
 }
 
-/// A page that may be read and written, and behind it one that may only be read.
+/// A page that may be read and written, and after it one that may only be read.
 const AT: u64 = 0x0010_0000;
 
 const ROM: u64 = 0x0010_1000;
