@@ -1,6 +1,6 @@
 //! Profiles.
 
-ghost use Rattle.std.specs.Prelude.{◌≡◌, ◌<◌, ◌^◌, [], length, map, slice_index, IfOk};
+ghost use Rattle.std.specs.Prelude.{◌≡◌, ◌<◌, ◌^◌, [], length, map, slice_index_or, IfOk};
 ghost use Rattle.branch_ring.specs.Profiles.{all_pairs, counted, pair_count, IsKept, IsProfile};
 
 use crate::counted::Counted;
@@ -57,7 +57,7 @@ impl Profile {
     /// A pair that is there.
     pub fn at(&self, i: usize) -> Counted
         requires { i < length self.now }
-        ensures { result ≡ slice_index self.now i }
+        ensures { result ≡ slice_index_or self.now i result }
     {
         let (from, to, count) = self.counts.as_slice()[i];
         Counted { from, to, count }

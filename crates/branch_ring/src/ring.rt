@@ -1,6 +1,6 @@
 //! The last transfers of a hart.
 
-ghost use Rattle.std.specs.Prelude.{◌≡◌, ◌≤◌, ◌<◌, ◌^◌, [], length, slice_get, IfOk};
+ghost use Rattle.std.specs.Prelude.{◌≡◌, ◌≤◌, ◌<◌, ◌^◌, [], length, slice_index_or, IfOk};
 ghost use Rattle.branch_ring.specs.Rings.{noted};
 
 use circular_buffer::HeapCircularBuffer;
@@ -47,10 +47,14 @@ impl Ring {
     }
 
     /// A pair that it keeps, counted from the oldest.
-    pub fn get(&self, i: usize) -> Option<(u64, u64)>
-        ensures { result ≡ slice_get self.now.pairs i }
+    pub fn at(&self, i: usize) -> (u64, u64)
+        requires { i < length self.now.pairs }
+        ensures { result ≡ slice_index_or self.now.pairs i result }
     {
-        self.pairs.get(i).copied()
+        match self.pairs.get(i) {
+            Some(pair) => *pair,
+            None => unreachable!(),
+        }
     }
 
     /// An equal ring.
