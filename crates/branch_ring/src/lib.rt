@@ -6,3 +6,5 @@ pub mod laws;
 pub mod profile;
 pub mod ring;
 mod tally;
+#[cfg(test)]
+mod tests;
