@@ -8,3 +8,4 @@ pub mod Slots
 pub mod Reserving
 pub mod Stays
 pub mod Still
+pub mod Transferring

@@ -34,12 +34,12 @@ unfolding settled
 settled_ended outcome s = refl
 
 -- a live hart that is changed, but for its status
-set_live : (hs : List Hart) (h : ℕ) (k : Hart) → k.status ≡ (hart_in hs h).status → IsLive h hs → IsLive h (set hs h k)
+pub set_live : (hs : List Hart) (h : ℕ) (k : Hart) → k.status ≡ (hart_in hs h).status → IsLive h hs → IsLive h (set hs h k)
 set_live [] h k same live = live
 set_live (x ∷ xs) zero k same live = ap is_live same ∙ live
 set_live (x ∷ xs) (suc h) k same live = set_live xs h k same live
 
-keeps_status : (e : Effect) (h : Hart) → (hart_after e h).status ≡ h.status
+pub keeps_status : (e : Effect) (h : Hart) → (hart_after e h).status ≡ h.status
 unfolding hart_after
 keeps_status (next rd value held) h = refl
 keeps_status (write at width v rd value held) h = refl
@@ -53,7 +53,7 @@ map_live among [] h live = live
 map_live among (x ∷ xs) zero live = live
 map_live among (x ∷ xs) (suc h) live = map_live among xs h live
 
-written_live : (h block : ℕ) (hs : List Hart) → IsLive h hs → IsLive h (written_by h block hs)
+pub written_live : (h block : ℕ) (hs : List Hart) → IsLive h hs → IsLive h (written_by h block hs)
 unfolding written_by
 written_live h block hs live = set_live (map (unreserved (λ b. b == block)) hs) h (hart_in hs h) (kept hs h) (map_live (λ b. b == block) hs h live)
   where
@@ -62,7 +62,7 @@ written_live h block hs live = set_live (map (unreserved (λ b. b == block)) hs)
     kept (x ∷ xs) zero = refl
     kept (x ∷ xs) (suc k) = kept xs k
 
-same_status : (h : Hart) (to : ℕ) (rd : Option ℕ) → (jumped h to rd).status ≡ h.status
+pub same_status : (h : Hart) (to : ℕ) (rd : Option ℕ) → (jumped h to rd).status ≡ h.status
 same_status h to None = refl
 same_status h to (Some rd) = refl
 
@@ -82,7 +82,7 @@ answer_settled origin image h indirect (acted.Trap cause value) s live = sym (se
 answer_settled origin image h indirect (acted.LinkUse rule) s live = sym (settled_ended _ s)
 answer_settled origin image h indirect acted.NoMemory s live = sym (settled_live h s live)
 
-can_live : (a b : Bool) → (a && b) ≡ true → b ≡ true
+pub can_live : (a b : Bool) → (a && b) ≡ true → b ≡ true
 can_live true b e = e
 can_live false b e = absurd cc
 

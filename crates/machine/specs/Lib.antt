@@ -5,3 +5,4 @@ pub mod Stack
 pub mod Start
 pub mod States
 pub mod Steps
+pub mod Transfers

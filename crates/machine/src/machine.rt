@@ -1,5 +1,5 @@
 //! The machine and its step.
-ghost use Rattle.std.specs.Prelude.{◌≡◌, ◌<◌, ◌&&◌, ℕ, true, length, replicate, OnOk, OnErr, IfOk, not, is_some};
+ghost use Rattle.std.specs.Prelude.{◌≡◌, ◌<◌, ◌&&◌, ℕ, true, length, replicate, OnOk, OnErr, IfOk, not, is_some, Some, None, if◌then◌else◌};
 ghost use Rattle.rv_isa.specs.Instr.{HasWord};
 ghost use Rattle.hart.specs.Effects.{effect_of, answer_of};
 ghost use Rattle.hart.specs.Harts.{with_reg};
@@ -11,7 +11,8 @@ ghost use Rattle.machine.specs.Harts.{is_live, hart_in, replied, woken, written_
 ghost use Rattle.machine.specs.Sharing.{HasRoom, answered_by};
 ghost use Rattle.machine.specs.Start.{start_of};
 ghost use Rattle.machine.specs.Loaded.{IsLoaded};
-ghost use Rattle.machine.specs.Steps.{with_hart, is_indirect, fault_of_jump, call_of, called, end_by, by_answer, affected, on_fetched, settled, can_step, original_step, original_run};
+ghost use Rattle.machine.specs.Steps.{with_hart, place_of, is_indirect, fault_of_jump, call_of, called, end_by, by_answer, affected, on_fetched, settled, can_step, original_step, original_run};
+ghost use Rattle.machine.specs.Transfers.{transfers, transfer_on};
 
 use crate::harts::{Harts, arguments_of};
 use crate::outcome::Outcome;
@@ -32,6 +33,16 @@ use rv_isa::fields::Reg;
 use rv_isa::instr::Instr;
 use std::alloc::Global;
 use std::marker::Model;
+
+/// What a step was and left.
+#[derive(Clone, Copy, Debug, PartialEq, Eq)]
+pub struct Ran {
+    /// How the run ended, once it has.
+    pub outcome: Option<Outcome>,
+    /// Where control went, by original addresses, if the step was one on a branch, taken or not, or a jump, and the run goes on:
+    /// from the instruction, and to the one that comes next.
+    pub transfer: Option<(u64, u64)>,
+}
 
 /// The machine of a guest.
 #[derive(Drop)]
@@ -63,6 +74,17 @@ fn is_indirect(i: &Instr) -> bool
     ensures { result ≡ is_indirect i.now }
 {
     matches!(*i, Instr::Jalr { .. })
+}
+
+/// Whether an instruction says by itself which one comes next: a branch or a jump.
+#[inline(always)]
+fn transfers(i: &Instr) -> bool
+    ensures { result ≡ transfers i.now }
+{
+    matches!(
+        *i,
+        Instr::Branch { .. } | Instr::Jal { .. } | Instr::Jalr { .. }
+    )
 }
 
 /// What ends the run in place of a jump to an original address, if anything does.
@@ -345,7 +367,19 @@ impl Machine {
         Ok(())
     }
 
-    /// One step of live hart `h` on the word that was fetched for it.
+    /// The transfer that hart `h` made by an instruction that stood at `from`, if it made one.
+    #[inline(always)]
+    fn transfer<O: Origins>(&self, origins: &O, h: u32, from: u64, i: &Instr) -> Option<(u64, u64)>
+        requires { transfers i.now ≡ true → h < length self.now.harts }
+        ensures { result ≡ (if transfers i.now && not (is_some self.now.outcome) then Some (O.origin origins.now from, place_of (O.origin origins.now) h self.now) else None) }
+    {
+        if transfers(i) && self.outcome.is_none() {
+            return Some((origins.origin(from), self.place(origins, h)));
+        }
+        None
+    }
+
+    /// One step of live hart `h` on the word that was fetched for it, and the transfer that it made, if it made one.
     #[inline(always)]
     #[tactic(auto, unfolding(crate::specs::Steps::on_fetched, crate::specs::Steps::settled))]
     fn obey<O: Origins>(
@@ -354,9 +388,10 @@ impl Machine {
         origins: &O,
         h: u32,
         word: Option<u32>,
-    ) -> Result<(), NoMemory>
+    ) -> Result<Option<(u64, u64)>, NoMemory>
         requires made { h < length self.old.harts }
         requires live { can_step h self.old ≡ true }
+        ensures transfer { IfOk result (λ made. made ≡ transfer_on (O.origin origins.now) h word self.old self.new) }
         ensures ok { OnOk result (self.new ≡ settled (on_fetched (O.origin origins.now) image.now h word self.old)) }
         ensures err { OnErr result (self.new ≡ self.old) }
     {
@@ -367,7 +402,7 @@ impl Machine {
                 pc,
                 value: pc,
             });
-            return Ok(());
+            return Ok(None);
         };
         let Some(i) = decode(word) else {
             let pc = self.place(origins, h);
@@ -376,9 +411,13 @@ impl Machine {
                 pc,
                 value: u64::from(word),
             });
-            return Ok(());
+            return Ok(None);
         };
-        self.act(image, origins, h, &i)
+        let from = self.harts.at(h).pc;
+        let Ok(()) = self.act(image, origins, h, &i) else {
+            return Err(NoMemory);
+        };
+        Ok(self.transfer(origins, h, from, &i))
     }
 
     /// Ends the run where no hart can go on. Only where hart `h` can't are the others looked at.
@@ -394,8 +433,8 @@ impl Machine {
         }
     }
 
-    /// One step of a live hart on the word that was fetched for it, and the outcome after it; no word is a fetch outside the
-    /// text. After want of memory all is as before.
+    /// One step of a live hart on the word that was fetched for it; no word is a fetch outside the text. After want of memory all is
+    /// as before.
     #[inline(always)]
     pub fn step_fetched<O: Origins>(
         &mut self,
@@ -403,16 +442,20 @@ impl Machine {
         origins: &O,
         h: u32,
         word: Option<u32>,
-    ) -> Result<Option<Outcome>, NoMemory>
+    ) -> Result<Ran, NoMemory>
         requires { can_step h self.old ≡ true }
         ensures step { OnOk result (self.new ≡ settled (on_fetched (O.origin origins.now) image.now h word self.old)) }
-        ensures outcome { IfOk result (λ outcome. outcome ≡ self.new.outcome) }
+        ensures outcome { IfOk result (λ ran. ran.outcome ≡ self.new.outcome) }
+        ensures transfer { IfOk result (λ ran. ran.transfer ≡ transfer_on (O.origin origins.now) h word self.old self.new) }
         ensures err { OnErr result (self.new ≡ self.old) }
     {
-        let Ok(()) = self.obey(image, origins, h, word) else {
+        let Ok(transfer) = self.obey(image, origins, h, word) else {
             return Err(NoMemory);
         };
-        Ok(self.outcome)
+        Ok(Ran {
+            outcome: self.outcome,
+            transfer,
+        })
     }
 
     /// Whether hart `h` can make a step.
@@ -433,7 +476,10 @@ impl Machine {
     {
         if self.can_step(h) {
             let word = image.word(self.harts.at(h).pc);
-            return self.step_fetched(image, &Same, h, word);
+            let Ok(ran) = self.step_fetched(image, &Same, h, word) else {
+                return Err(NoMemory);
+            };
+            return Ok(ran.outcome);
         }
         Ok(self.outcome)
     }

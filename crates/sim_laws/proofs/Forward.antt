@@ -25,12 +25,12 @@ use Rattle.sim_laws.proofs.Settled.{settled_live, settled_related}
 use Rattle.sim_laws.proofs.OneWord.{Made, layout, real, IsMade, made, same_states}
 use Rattle.sim_laws.proofs.LayoutSteps.{stepped_to}
 
-not_ended : (t : Status) → is_live t ≡ true → has_ended t ≡ false
+pub not_ended : (t : Status) → is_live t ≡ true → has_ended t ≡ false
 not_ended Live e = refl
 not_ended (Waiting a) e = refl
 not_ended Ended e = absurd (cc)
 
-none_at : (hs : List Hart) (h : ℕ) → slice_get hs h ≡ None → hart_in hs h ≡ no_hart
+pub none_at : (hs : List Hart) (h : ℕ) → slice_get hs h ≡ None → hart_in hs h ≡ no_hart
 none_at [] h e = refl
 none_at (x ∷ xs) zero e = absurd (cc)
 none_at (x ∷ xs) (suc h) e = none_at xs h e

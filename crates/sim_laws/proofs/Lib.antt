@@ -20,6 +20,7 @@ pub mod Orderly
 pub mod Queue
 pub mod Settled
 pub mod Start
+pub mod Transferred
 pub mod Values
 pub mod Woken
 pub mod Written

@@ -13,7 +13,7 @@ ghost use Rattle.machine.specs.Steps.{original_step};
 ghost use Rattle.sim_laws.specs.declared.stepped.Stepped.TheVariants.{Layout as LayoutStep};
 ghost use Rattle.sim_laws.specs.Codes.{IsCodeOf, AreLive};
 ghost use Rattle.sim_laws.specs.Related.{StatesRelated};
-ghost use Rattle.sim_laws.specs.Steps.{replaced_step, stepped, original_after, until_real, kind_until};
+ghost use Rattle.sim_laws.specs.Steps.{replaced_step, replaced_transfer, stepped, original_after, transfer_after, until_real, kind_until};
 ghost use Rattle.sim_laws.specs.Changes.{KeepsPointers, with_links, IsSent, with_memory, GivesUp, LeavesCalls, LeavesPointers};
 
 /// The law of a step: after a step of the machine whose code has been moved it stands for the original one, after its step or as it
@@ -21,6 +21,13 @@ ghost use Rattle.sim_laws.specs.Changes.{KeepsPointers, with_links, IsSent, with
 pub fn step_law()
     ensures { (p : Picture) (c : Code) (h : ℕ) (r o : State) → IsKept p → IsCodeOf p c → Renders c → IsOrderly r.system → StatesRelated p c r o
         → StatesRelated p c (replaced_step p c h r) (original_after (stepped c h r) p h o) }
+{}
+
+/// The law of transfers: where it stands for the original machine, a step of it makes the transfer that the original machine makes
+/// meanwhile, by the same addresses, and none where that one makes none.
+pub fn transfer_law()
+    ensures { (p : Picture) (c : Code) (h : ℕ) (r o : State) → IsKept p → IsCodeOf p c → Renders c → IsOrderly r.system → StatesRelated p c r o
+        → replaced_transfer p c h r ≡ transfer_after (stepped c h r) p h o }
 {}
 
 /// The law of steps of the layout: of three steps of a hart one isn't a step of the layout alone; and the steps up to that one
