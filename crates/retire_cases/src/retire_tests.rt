@@ -3,7 +3,7 @@
 //! wanted was worked out by hand from the layouts' addresses.
 
 ghost use Rattle.std.specs.Prelude.{◌↔◌, All, AllPairs, OnOk, IfOk, IsTrue};
-ghost use Rattle.retire.specs.References.{LieApart};
+ghost use Rattle.layout.specs.Apart.{LieApart};
 
 use cases::images::image_of;
 use cases::layouts::layout_of;

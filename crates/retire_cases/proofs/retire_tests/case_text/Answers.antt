@@ -1,7 +1,7 @@
 use Rattle.std.proofs.Common.{subst, sym}
 use Rattle.std.specs.Prelude.{List, AllPairs}
 use Rattle.layout.specs.Laid.{Laid}
-use Rattle.retire.specs.References.{LieApart}
+use Rattle.layout.specs.Apart.{LieApart}
 use Rattle.retire_cases.proofs.retire_tests.case_text.Goals as goal
 
 pub unreferenced-requires-clause-apart : goal.unreferenced-requires-clause-apart
