@@ -1,0 +1,5 @@
+pub mod Ascending
+pub mod Counting
+pub mod Last
+pub mod Listing
+pub mod Tallied
