@@ -209,6 +209,39 @@ fn a_guest_whose_code_moves_ends_as_before(rt: HostRuntime) -> Result<(), Fail> 
     Ok(())
 }
 
+// The same, with layouts that are given up and tables of functions.
+const GIVEN_UP: &str = "\
+recurs in two layouts, the first given up: recursion | real 0 7/replace 1:0 1 2/real 0 5/replace 1:2 1 0/real 0 7/retire/real 0 4/retire/till 100 = 6|real 33 layout 0/snaps 0 attempts 2 done 2 refused 0 retired 1/sites 2 slots 0/layout 2 0x12024 11/hart 0 ended/|ocolos: exit 6/
+a dead word of the stack links to the first: dead link | real 0 7/replace 1:0 1 2/real 0 5/replace 1:2 1 0/real 0 20/retire/till 100 = 8|real 43 layout 2/snaps 0 attempts 2 done 2 refused 0 retired 0/sites 2 slots 0/layout 1 0x12000 9/layout 2 0x12024 11/hart 0 ended/|ocolos: exit 8/
+the dead word is overwritten: dead link | real 0 7/replace 1:0 1 2/real 0 5/replace 1:2 1 0/real 0 20/retire/real 0 9/retire/till 100 = 8|real 43 layout 2/snaps 0 attempts 2 done 2 refused 0 retired 1/sites 2 slots 0/layout 2 0x12024 11/hart 0 ended/|ocolos: exit 8/
+a slot leads to the layout: table | real 0 5/replace 1:0/real 0 3 = 115|real 8 layout 0/snaps 0 attempts 1 done 1 refused 0 retired 0/sites 0 slots 1/layout 1 0x13000 2/hart 0 live 0x10020 0x13004/|ocolos: unfinished/
+a slot that holds a plain number is left alone: own table | real 0 4/replace 1:0/real 0 3 = 115|real 7 layout 0/snaps 0 attempts 1 done 1 refused 0 retired 0/sites 0 slots 0/layout 1 0x13000 2/hart 0 live 0x1002c 0x1002c/|ocolos: unfinished/";
+
+#[test]
+fn what_refers_to_a_layout_keeps_it(rt: HostRuntime) -> Result<(), Fail> {
+    assert_eq!(rt; first_misreported(rt.alloc(), GIVEN_UP)?.as_str(), "");
+    Ok(())
+}
+
+/// What a run comes to whose region of one page is full after 113 replacements: the next one is refused, and all but the last
+/// layout are given up.
+fn crowded(alloc: Global) -> Result<Vec<u8>, Fail> {
+    let mut script = String::new(alloc);
+    for _ in 0..114 {
+        script.push_str("replace 1:2 1 0/")?;
+    }
+    script.push_str("retire/replace 1:2 1 0")?;
+    let case = format!(in alloc; "--region 0x20000:4096 | {script}")?;
+    reported(alloc, "countdown", &case)
+}
+
+#[test]
+fn a_page_of_layouts_has_room_again_after_a_retirement(rt: HostRuntime) -> Result<(), Fail> {
+    let wanted = "115|real 0 layout 0/snaps 0 attempts 115 done 114 refused 1 retired 112/refusal 114 region 36 28/sites 2 slots 0/layout 113 0x20fc0 9/layout 114 0x20000 9/hart 0 live 0x10000 0x10000/|ocolos: unfinished/";
+    assert_eq!(rt; crowded(rt.alloc())?, with_newlines(rt.alloc(), wanted)?);
+    Ok(())
+}
+
 const SCRIPT_FAULTS: &str = "\
 a function past the last: exit | replace 9:0 = 124||ocolos: script line 1 fault 3/
 another order: exit | replace 0:1 = 124||ocolos: script line 1 fault 4/
