@@ -22,7 +22,8 @@ struct End {
     err: Vec<u8>,
 }
 
-fn words_of(alloc: Global, text: &str) -> Result<Vec<String>, AllocError> {
+/// The words of a text.
+pub fn words_of(alloc: Global, text: &str) -> Result<Vec<String>, Fail> {
     let mut words = Vec::new(alloc);
     for word in text.split_whitespace() {
         words.push(String::from_str(alloc, word)?)?;
@@ -31,12 +32,7 @@ fn words_of(alloc: Global, text: &str) -> Result<Vec<String>, AllocError> {
 }
 
 /// Plays over these files.
-fn played<F: Files>(
-    alloc: Global,
-    words: &str,
-    files: &mut F,
-    input: &str,
-) -> Result<End, AllocError> {
+fn played<F: Files>(alloc: Global, words: &str, files: &mut F, input: &str) -> Result<End, Fail> {
     let words = words_of(alloc, words)?;
     let mut input = MemSource::new(input.as_bytes().to_vec(alloc)?, Vec::new(alloc));
     let mut out = MemSink::new(Vec::new(alloc), Vec::new(alloc));
@@ -93,7 +89,7 @@ fn assembled(alloc: Global, what: &str, script: &str) -> Result<MemFiles, Fail> 
 fn run(alloc: Global, guest: &str, script: &str, more: &str, input: &str) -> Result<End, Fail> {
     let mut files = assembled(alloc, guest, script)?;
     let words = format!(in alloc; "guest.elf script {more}")?;
-    Ok(played(alloc, &words, &mut files, input)?)
+    played(alloc, &words, &mut files, input)
 }
 
 /// The status of a run, these bytes of it, and its last lines.
@@ -154,6 +150,12 @@ fn a_guest_that_is_assembled_runs_to_its_end(rt: HostRuntime) -> Result<(), Fail
     Ok(())
 }
 
+/// Whether a run is another one that also writes its report, before its last line.
+fn is_shown(shown: &End, end: &End) -> bool {
+    let rest = shown.err.strip_prefix(end.report.as_slice());
+    shown.report == end.report && rest == Some(end.err.as_slice())
+}
+
 /// The report of a run under a script, which stands behind more words for the call, and its last line. The report is answered
 /// whether it is written or not.
 fn reported(alloc: Global, guest: &str, case: &str) -> Result<Vec<u8>, Fail> {
@@ -161,9 +163,7 @@ fn reported(alloc: Global, guest: &str, case: &str) -> Result<Vec<u8>, Fail> {
     let end = run(alloc, guest, script, more, "")?;
     let more = format!(in alloc; "{more} --report")?;
     let shown = run(alloc, guest, script, &more, "")?;
-    let mut both = end.report.as_slice().to_vec(alloc)?;
-    both.extend_from_slice(&end.err)?;
-    if shown.err != both || shown.report != end.report {
+    if !is_shown(&shown, &end) {
         return Err(Fail::new("another report is written"));
     }
     Ok(told(alloc, &end, &end.report)?)
