@@ -5,6 +5,7 @@ ghost use Rattle.finite.specs.Maps.{contains, contains_all};
 ghost use Rattle.guest_mem.specs.Memory.{Memory, word_of, with_word, with_right, is_link_at};
 ghost use Rattle.guest_mem.specs.Access.{size_of, refusal, load_of, stored, IsCause, KeepsRoom, with_link};
 
+use crate::GUEST_END;
 use crate::bytes::{bytes, extend, number, number_at, plain_bytes, spliced};
 use crate::fault::{Access, StoreFault};
 use crate::store::size;
@@ -12,9 +13,6 @@ use crate::words::{Right, Word, WordStore};
 use link_tags::origins::{Origins, original};
 use link_tags::value::{Tag, Value};
 use rv_isa::instr::Width;
-
-/// The end of guest addresses.
-const END: u64 = 0x1000_0000;
 
 /// Whether each of the `n` bytes at `at` has a right.
 pub fn all_have_right<S: WordStore>(store: &S, right: Right, at: u64, n: u64) -> bool
@@ -25,7 +23,7 @@ pub fn all_have_right<S: WordStore>(store: &S, right: Right, at: u64, n: u64) ->
     if n == 0 {
         return true;
     }
-    if at.saturating_add(n) > END {
+    if at.saturating_add(n) > GUEST_END {
         return false;
     }
     for w in at / 8..(at + n + 7) / 8 {

@@ -19,3 +19,9 @@ pub mod store;
 mod tests;
 mod transfer;
 pub mod words;
+
+/// The end of the guest's addresses.
+pub const GUEST_END: u64 = 0x1000_0000;
+
+/// The bytes of a page.
+pub const PAGE: u64 = 4096;

@@ -6,6 +6,7 @@ ghost use Rattle.guest_mem.specs.Bits.{bit_in, all_bits_in};
 ghost use Rattle.guest_mem.specs.Memory.{bytes_of, no_word};
 ghost use Rattle.guest_mem.specs.Pages.{right_of, full_byte, full_right, page_byte, page_link, page_right, page_rights, is_full, full_links, page_links, IsPageWith, IsSamePage, IsFullChanged, IsPageChanged, IsReady};
 
+use crate::PAGE;
 use crate::bits::{all_set, bit, no_bits, same_bits, set_bit, set_bits};
 use crate::bytes::{bytes, number};
 use crate::clearing::zeroed;
@@ -140,7 +141,7 @@ impl Full {
         ensures links { self.new.links ≡ self.old.links }
         ensures rights { (right : Right) (j : ℕ) → j < 4096 → full_right right self.new j ≡ cond (within lo (hi - lo) j) (right_of right rights) (full_right right self.old j) }
     {
-        if lo == 0 && hi == 4096 {
+        if lo == 0 && hi == PAGE as usize {
             self.read = same_bits(rights.read);
             self.write = same_bits(rights.write);
         } else {
@@ -321,7 +322,7 @@ impl Page {
         ensures { result ≡ true → IsReady self.now lo (hi - lo) rights }
     {
         match self {
-            Page::Zero(old) => lo == 0 && hi == 4096 || *old == rights,
+            Page::Zero(old) => lo == 0 && hi == PAGE as usize || *old == rights,
             Page::Full(_) => true,
         }
     }
@@ -352,7 +353,7 @@ impl Page {
         requires ready { IsReady self.old lo (hi - lo) rights }
         ensures { IsPageChanged cleared lo (hi - lo) rights self.old self.new }
     {
-        let whole = lo == 0 && hi == 4096;
+        let whole = lo == 0 && hi == PAGE as usize;
         match self {
             Page::Full(full) => {
                 if whole && cleared {

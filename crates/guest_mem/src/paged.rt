@@ -9,7 +9,7 @@ use crate::fault::{Access, StoreFault};
 use crate::page::{Page, Rights};
 use crate::store::GuestStore;
 use crate::words::{Right, Word, WordStore};
-use crate::{access, transfer};
+use crate::{PAGE, access, transfer};
 use link_tags::origins::Origins;
 use link_tags::value::{Tag, Value};
 use oc_base::fault::NoMemory;
@@ -17,9 +17,6 @@ use oc_base::range::Range;
 use rv_isa::instr::Width;
 use std::alloc::Global;
 use std::marker::Model;
-
-/// The bytes of a page.
-const PAGE: u64 = 4096;
 
 /// The words of a page.
 const PAGE_WORDS: u64 = 512;

@@ -7,7 +7,7 @@ use Rattle.rv_asm.specs.declared.meaning.Meaning.{Meaning}
 use Rattle.rv_asm.specs.declared.symbol.Named.{Named}
 use Rattle.rv_asm.specs.declared.symbol.Fixup.{Fixup}
 use Rattle.rv_asm.specs.State.{start, after, collect}
-use Rattle.rv_asm.specs.Order.{least}
+use Rattle.rv_asm.specs.Order.{first_fault}
 use Rattle.rv_asm.specs.Names.{name_faults_from}
 use Rattle.rv_asm.specs.Faults.{faults_from}
 use Rattle.rv_asm.specs.Emission.{AreWords, code, bytes, func, object, fixup}
@@ -15,7 +15,7 @@ use Rattle.rv_asm.specs.Kept.{symbol_size}
 use Rattle.rv_asm.specs.Assembly.{all_names, fault_of}
 use Rattle.rv_asm.proofs.Sizes.{IsSmall, small_after, end_after, closed_after, none_parts, text_sum, data_sum, funcs_size, objects_size, funcs_len, fixups_below, below_from, below_up, limit, open_count, words_len, Below}
 
-no_faults : (xs : List Statement) → fault_of xs ≡ None → least (faults_from (all_names xs) start xs) ≡ None
+no_faults : (xs : List Statement) → fault_of xs ≡ None → first_fault (faults_from (all_names xs) start xs) ≡ None
 unfolding fault_of
 no_faults xs none = (none_parts (name_faults_from [] start xs) (faults_from (all_names xs) start xs) none).1
 

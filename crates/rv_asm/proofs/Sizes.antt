@@ -16,19 +16,22 @@ use Rattle.asm_text.specs.declared.body.Body.{Body}
 use Rattle.asm_text.specs.declared.body.Body.TheVariants as says
 use Rattle.asm_text.specs.declared.statement.Statement.{Statement}
 use Rattle.rv_asm.specs.declared.code.Code.{Code}
+use Rattle.rv_asm.specs.declared.fault.FaultKind.{FaultKind}
+use Rattle.rv_asm.specs.declared.fault.FaultKind.TheVariants.{TooLarge}
+use Rattle.rv_asm.specs.declared.fault.LineFault.{LineFault}
 use Rattle.rv_asm.specs.declared.meaning.Meaning.{Meaning}
 use Rattle.rv_asm.specs.declared.meaning.Meaning.TheVariants.{Label, Function, Object}
 use Rattle.rv_asm.specs.declared.symbol.Named.{Named}
 use Rattle.rv_asm.specs.declared.symbol.Fixup.{Fixup}
 use Rattle.rv_asm.specs.declared.state.Open.{Open}
 use Rattle.rv_asm.specs.declared.state.State.{State}
-use Rattle.rv_asm.specs.Order.{lesser, least, when, fault}
+use Rattle.rv_asm.specs.Order.{first_of_two, first_fault, fault_if}
 use Rattle.rv_asm.specs.State.{is_data, is_void, size, step, placed_step, after, collect, opened, func_after, object_after, funcs_after}
 use Rattle.rv_asm.specs.Names.{add, add_labels, add_own, names_after, names_from, text_at}
 use Rattle.rv_asm.specs.Faults.{faults, faults_from, void_faults, nesting_faults, aim_faults, size_faults, end_faults, left_open, len_of, jal_reaches, branch_reaches, aim}
 use Rattle.rv_asm.specs.Emission.{AreWords, jal_code, branch_code, call_code, text_code, code, slot_bytes, data_bytes, bytes, named, own_func, func, own_object, object, to_function, jal_fixup, own_fixup, fixup, nop}
 use Rattle.rv_asm.specs.Kept.{symbol_size}
-use Rattle.rv_asm.proofs.Walk.{least_append}
+use Rattle.rv_asm.proofs.Walk.{first_fault_append}
 
 -- ---- words are no more than the bytes that their statement takes
 
@@ -135,17 +138,17 @@ data_sum names s (x ∷ xs) small =
 
 -- ---- a text without a fault is within the limits
 
-none_of : (a b : Option ℕ) → lesser a b ≡ None → (a ≡ None) × (b ≡ None)
+none_of : (a b : Option LineFault) → first_of_two a b ≡ None → (a ≡ None) × (b ≡ None)
 none_of None b e = (refl, e)
 none_of (Some a) None e = absurd cc
 none_of (Some a) (Some b) e = absurd cc
 
-pub none_parts : (xs ys : List ℕ) → least (xs ++ ys) ≡ None → (least xs ≡ None) × (least ys ≡ None)
-none_parts xs ys e = none_of (least xs) (least ys) (sym (least_append xs ys) ∙ e)
+pub none_parts : (xs ys : List LineFault) → first_fault (xs ++ ys) ≡ None → (first_fault xs ≡ None) × (first_fault ys ≡ None)
+none_parts xs ys e = none_of (first_fault xs) (first_fault ys) (sym (first_fault_append xs ys) ∙ e)
 
-when_none : (b : Bool) (f : ℕ) → least (when b f) ≡ None → b ≡ false
-when_none true f e = absurd cc
-when_none false f e = refl
+no_fault_if : (b : Bool) (line : ℕ) (k : FaultKind) → first_fault (fault_if b line k) ≡ None → b ≡ false
+no_fault_if true line k e = absurd cc
+no_fault_if false line k e = refl
 
 pub record IsSmall (s : State) : Type 0 where
   pub in_text : s.text_len ≤ 16777216
@@ -155,31 +158,31 @@ small_cond : (d : Bool) (s t : State) (n : ℕ) → t.text_len ≡ s.text_len + 
 small_cond true s t n ts ds le small = record { in_text = omega (arith, ts, small.in_text); in_data = omega (arith, ds, le) }
 small_cond false s t n ts ds le small = record { in_text = omega (arith, ts, le); in_data = omega (arith, ds, small.in_data) }
 
-small_step_cond : (v : Bool) (fs gs hs ks : List ℕ) (s t : State) → IsSmall s → (least ks ≡ None → IsSmall t) → least (cond v fs (gs ++ (hs ++ ks))) ≡ None → IsSmall (cond v s t)
+small_step_cond : (v : Bool) (fs gs hs ks : List LineFault) (s t : State) → IsSmall s → (first_fault ks ≡ None → IsSmall t) → first_fault (cond v fs (gs ++ (hs ++ ks))) ≡ None → IsSmall (cond v s t)
 small_step_cond true fs gs hs ks s t small then e = small
 small_step_cond false fs gs hs ks s t small then e = then (none_parts hs ks (none_parts gs (hs ++ ks) e).1).1
 
-small_step : (names : List (List ℕ × Meaning)) (s : State) (x : Statement) → IsSmall s → least (faults names s x) ≡ None → IsSmall (step s x)
+small_step : (names : List (List ℕ × Meaning)) (s : State) (x : Statement) → IsSmall s → first_fault (faults names s x) ≡ None → IsSmall (step s x)
 small_step names s x small e =
     let t = placed_step s x.line x.body in
-    let sized = λ (none : least (size_faults s x.line x.body) ≡ None). small_cond (is_data s.section) s t (size x.body) refl refl (ltb-false 16777216 (len_of s + size x.body) (when_none (nat_lt 16777216 (len_of s + size x.body)) (fault x.line 7) none)) small in
+    let sized = λ (none : first_fault (size_faults s x.line x.body) ≡ None). small_cond (is_data s.section) s t (size x.body) refl refl (ltb-false 16777216 (len_of s + size x.body) (no_fault_if (nat_lt 16777216 (len_of s + size x.body)) x.line TooLarge none)) small in
     small_step_cond (is_void s.section x) (void_faults s x) (nesting_faults s x.line x.body) (aim_faults names s x.line x.body) (size_faults s x.line x.body) s t small sized e
 
-pub small_after : (names : List (List ℕ × Meaning)) (s : State) (xs : List Statement) → IsSmall s → least (faults_from names s xs) ≡ None → IsSmall (after s xs)
+pub small_after : (names : List (List ℕ × Meaning)) (s : State) (xs : List Statement) → IsSmall s → first_fault (faults_from names s xs) ≡ None → IsSmall (after s xs)
 small_after names s [] small e = small
 small_after names s (x ∷ xs) small e =
     let parts = none_parts (faults names s x) (faults_from names (step s x) xs) e in
     small_after names (step s x) xs (small_step names s x small parts.0) parts.1
 
-pub end_after : (names : List (List ℕ × Meaning)) (s : State) (xs : List Statement) → least (faults_from names s xs) ≡ None → least (end_faults (after s xs)) ≡ None
+pub end_after : (names : List (List ℕ × Meaning)) (s : State) (xs : List Statement) → first_fault (faults_from names s xs) ≡ None → first_fault (end_faults (after s xs)) ≡ None
 end_after names s [] e = e
 end_after names s (x ∷ xs) e = end_after names (step s x) xs (none_parts (faults names s x) (faults_from names (step s x) xs) e).1
 
-left_none : (o : Option Open) → least (left_open o) ≡ None → o ≡ None
+left_none : (o : Option Open) → first_fault (left_open o) ≡ None → o ≡ None
 left_none None e = refl
 left_none (Some o) e = absurd cc
 
-pub closed_after : (s : State) → least (end_faults s) ≡ None → s.func ≡ None
+pub closed_after : (s : State) → first_fault (end_faults s) ≡ None → s.func ≡ None
 closed_after s e = left_none s.func (none_parts (left_open s.func) _ e).0
 
 -- ---- functions: their numbers are below their count

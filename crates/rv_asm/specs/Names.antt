@@ -4,11 +4,13 @@ use Rattle.asm_text.specs.Keywords.{lookup}
 use Rattle.asm_text.specs.declared.body.Body.{Body}
 use Rattle.asm_text.specs.declared.body.Body.TheVariants as says
 use Rattle.asm_text.specs.declared.statement.Statement.{Statement}
+use Rattle.rv_asm.specs.declared.fault.FaultKind.TheVariants as kind
+use Rattle.rv_asm.specs.declared.fault.LineFault.{LineFault}
 use Rattle.rv_asm.specs.declared.meaning.Meaning.{Meaning}
 use Rattle.rv_asm.specs.declared.meaning.Meaning.TheVariants.{Label, Function, Object}
 use Rattle.rv_asm.specs.declared.state.State.{State}
 use Rattle.rv_asm.specs.State.{is_void, step}
-use Rattle.rv_asm.specs.Order.{fault, when}
+use Rattle.rv_asm.specs.Order.{fault_if}
 
 -- a name, unless it is there
 abbrev pub add : List (List ℕ × Meaning) → List ℕ → Meaning → List (List ℕ × Meaning)
@@ -39,25 +41,25 @@ abbrev pub names_from : List (List ℕ × Meaning) → State → List Statement 
 names_from names s [] = names
 names_from names s (x ∷ xs) = names_from (names_after names s x) (step s x) xs
 
--- ---- a name that is given again is a fault of the fifth kind (place 4)
+-- ---- a name that is given again
 
-abbrev pub again : List (List ℕ × Meaning) → ℕ → List ℕ → List ℕ
-again names line name = when (is_some (lookup names name)) (fault line 4)
+abbrev pub again : List (List ℕ × Meaning) → ℕ → List ℕ → List LineFault
+again names line name = fault_if (is_some (lookup names name)) line kind.GivenAgain
 
-abbrev pub labels_again : List (List ℕ × Meaning) → ℕ → ℕ → List (List ℕ) → List ℕ
+abbrev pub labels_again : List (List ℕ × Meaning) → ℕ → ℕ → List (List ℕ) → List LineFault
 labels_again names line at [] = []
 labels_again names line at (label ∷ labels) = again names line label ++ labels_again (add names label (Label at)) line at labels
 
-abbrev pub own_again : List (List ℕ × Meaning) → ℕ → Body → List ℕ
+abbrev pub own_again : List (List ℕ × Meaning) → ℕ → Body → List LineFault
 own_again names line (says.Func name) = again names line name
 own_again names line (says.Object name) = again names line name
 own_again names line _ = []
 
-abbrev pub name_faults : List (List ℕ × Meaning) → State → Statement → List ℕ
+abbrev pub name_faults : List (List ℕ × Meaning) → State → Statement → List LineFault
 name_faults names s x =
     labels_again names x.line (text_at s) x.labels
     ++ (if is_void s.section x then [] else own_again (add_labels names (text_at s) x.labels) x.line x.body)
 
-abbrev pub name_faults_from : List (List ℕ × Meaning) → State → List Statement → List ℕ
+abbrev pub name_faults_from : List (List ℕ × Meaning) → State → List Statement → List LineFault
 name_faults_from names s [] = []
 name_faults_from names s (x ∷ xs) = name_faults names s x ++ name_faults_from (names_after names s x) (step s x) xs

@@ -11,10 +11,10 @@ ghost use Rattle.rv_asm.specs.declared.fault.AsmFault.TheVariants.{NoMemory as F
 
 use crate::emit::{bytes_of, entries_of, entry_or, fixups_of, funcs_of, objects_of, text_of};
 use crate::fault::AsmFault;
-use crate::faults::kind_at;
 use crate::names::Names;
 use crate::passes::{first_pass, second_pass};
 use crate::program::Program;
+use crate::{PAGE, TEXT_START};
 use asm_text::statement::{Statement, statements_of};
 use oc_base::fault::NoMemory;
 use oc_base::items::Items;
@@ -26,7 +26,7 @@ fn data_start(text_len: u64) -> u64
     ensures value { result ≡ round_up 4096 (65536 + text_len) }
     ensures small { result < 2 ^ 62 }
 {
-    (65536 + text_len + 4095) / 4096 * 4096
+    (TEXT_START + text_len + (PAGE - 1)) / PAGE * PAGE
 }
 
 /// The program of statements without a fault.
@@ -70,7 +70,7 @@ pub fn one_program()
 {}
 
 /// The program that a text stands for, or its first fault.
-#[tactic(auto, unfolding(crate::specs::Assembly::fault_in, crate::specs::Assembly::fault_of, crate::specs::Assembly::all_names), using(crate::proofs::Walk::least_both, crate::proofs::Sizes::count_weight))]
+#[tactic(auto, unfolding(crate::specs::Assembly::fault_in, crate::specs::Assembly::fault_of, crate::specs::Assembly::all_names), using(crate::proofs::Walk::first_fault_both, crate::proofs::Sizes::count_weight))]
 pub fn assemble(alloc: Global, text: &[u8]) -> Result<Program, AsmFault>
     requires { length text.now ≤ 67108864 }
     ensures none { OnOk result (fault_in text.now ≡ None) }
@@ -82,8 +82,8 @@ pub fn assemble(alloc: Global, text: &[u8]) -> Result<Program, AsmFault>
     let (end, fault) = second_pass(alloc, &names, &items, given_again)?;
     if let Some(fault) = fault {
         return Err(AsmFault::Line {
-            line: fault / 8,
-            kind: kind_at(fault % 8),
+            line: fault.line as u64,
+            kind: fault.kind.number(),
         });
     }
     Ok(program_of(alloc, &names, end.text_len, &items)?)

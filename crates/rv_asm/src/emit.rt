@@ -11,6 +11,7 @@ ghost use Rattle.rv_asm.specs.Faults.{jal_reaches, branch_reaches};
 ghost use Rattle.rv_isa.specs.Instr.{HasWord};
 ghost use Rattle.rv_asm.specs.declared.code.Code.TheVariants.{Instruction};
 
+use crate::TEXT_START;
 use crate::code::Code;
 use crate::faults::{aim, branch_reaches, jal_reaches, text_at};
 use crate::meaning::Meaning;
@@ -24,7 +25,7 @@ use asm_text::operand::Target;
 use asm_text::statement::Statement;
 use oc_base::fault::NoMemory;
 use oc_base::items::Items;
-use rv_encode::encode;
+use rv_encode::{HIGH_COUNT, HIGH_UNIT, LOW_HALF, encode};
 use rv_isa::fields::{Imm12, Imm20, OffB, OffJ, Reg};
 use rv_isa::instr::{Cond, ImmOp, Instr};
 use std::alloc::Global;
@@ -98,10 +99,10 @@ fn push_call(all: &mut Vec<Code>, here: u64, meaning: Option<Meaning>) -> Result
     ensures { OnOk result (all.new.items ≡ all.old.items ++ call_code here meaning) }
 {
     if let Some(Meaning::Function { at, .. }) = meaning {
-        let ahead = (at as u128 + (1 << 32) + 2048).saturating_sub(here as u128);
+        let ahead = (at as u128 + (1 << 32) + LOW_HALF as u128).saturating_sub(here as u128);
         let x1 = Reg::new(1).unwrap();
-        let imm = Imm20::new((ahead / 4096 % (1 << 20)) as i32).unwrap();
-        let off = Imm12::new((ahead % 4096) as i32 - 2048).unwrap();
+        let imm = Imm20::new((ahead / HIGH_UNIT as u128 % HIGH_COUNT as u128) as i32).unwrap();
+        let off = Imm12::new((ahead % HIGH_UNIT as u128) as i32 - LOW_HALF as i32).unwrap();
         push(all, Instr::Auipc { rd: x1, imm })?;
         push(
             all,
@@ -339,7 +340,7 @@ fn push_func(
     ensures sound { OnOk result (All IsSound all.new.items) }
 {
     if !is_void(state.section, x) && matches!(&x.body, Body::End) {
-        return push_named(alloc, 65536, state.text_len, &state.func, all);
+        return push_named(alloc, TEXT_START, state.text_len, &state.func, all);
     }
     Ok(())
 }
@@ -528,5 +529,5 @@ pub fn entry_or(entries: &[u64], funcs: &[Named]) -> u64
     if !funcs.is_empty() {
         return funcs[0].from;
     }
-    65536
+    TEXT_START
 }

@@ -1,12 +1,14 @@
-//! The faults of statements, each as a number: the first line with a fault and the least kind in it are the least number.
+//! The faults of statements, and which of them counts first.
 
 ghost use Rattle.std.specs.Prelude.{◌≡◌, ◌<◌, ◌+◌, ◌^◌, ◌++◌, ◌==◌, ◌&&◌, not, is_some, Some, neg_ℤ, pos};
 ghost use Rattle.asm_text.specs.Bodies.{is_within};
 ghost use Rattle.asm_text.specs.Keywords.{lookup};
-ghost use Rattle.rv_asm.specs.Order.{fault, when, lesser, least, kind_at};
+ghost use Rattle.rv_asm.specs.Order.{one_fault, fault_if, first_of_two, first_fault};
 ghost use Rattle.rv_asm.specs.Names.{text_at};
 ghost use Rattle.rv_asm.specs.Faults.{void_faults, nesting_faults, address_of, aim, reaches, jal_reaches, branch_reaches, jal_faults, branch_faults, is_function, function_faults, aim_faults, size_faults, faults, left_open, end_faults};
 
+use crate::TEXT_START;
+use crate::fault::{FaultKind, LineFault};
 use crate::meaning::Meaning;
 use crate::names::Names;
 use crate::state::{Open, State};
@@ -14,59 +16,69 @@ use crate::step::{is_data, is_misplaced, is_void, size};
 use asm_text::body::Body;
 use asm_text::operand::Target;
 use asm_text::statement::Statement;
+use rv_encode::{BRANCH_REACH, JAL_REACH};
 
-/// The number of a fault: its line, and the place of its kind in the order 1, 7, 2, 6, 5, 4, 3, 8.
-pub fn fault(line: u32, place: u64) -> u64
-    requires { place < 8 }
-    ensures { result ≡ fault line place }
-{
-    8 * line as u64 + place
-}
+/// The most bytes of text, and of data.
+const SECTION_LIMIT: u64 = 16777216;
 
-/// The kind at a place of the order.
-pub fn kind_at(place: u64) -> u8
-    ensures { result ≡ kind_at place }
+/// The first of the first fault so far and another.
+pub fn first(so_far: Option<LineFault>, line: u32, kind: FaultKind) -> Option<LineFault>
+    ensures { result ≡ first_of_two so_far (first_fault (one_fault line kind)) }
 {
-    match place {
-        0 => 1,
-        1 => 7,
-        2 => 2,
-        3 => 6,
-        4 => 5,
-        5 => 4,
-        6 => 3,
-        7 => 8,
-        _ => 0,
-    }
-}
-
-/// The lesser of the least fault so far and another.
-pub fn worst(so_far: Option<u64>, fault: u64) -> Option<u64>
-    ensures { result ≡ lesser so_far (Some fault) }
-{
+    let fault = LineFault { line, kind };
     match so_far {
-        Some(old) => Some(old.min(fault)),
+        Some(old) => Some(old.earlier(fault)),
         None => Some(fault),
     }
 }
 
 /// The same, where something is wrong.
-pub fn worst_if(so_far: Option<u64>, wrong: bool, fault: u64) -> Option<u64>
-    ensures { result ≡ lesser so_far (least (when wrong fault)) }
+pub fn first_if(
+    so_far: Option<LineFault>,
+    wrong: bool,
+    line: u32,
+    kind: FaultKind,
+) -> Option<LineFault>
+    ensures { result ≡ first_of_two so_far (first_fault (fault_if wrong line kind)) }
 {
-    if wrong { worst(so_far, fault) } else { so_far }
+    if wrong {
+        first(so_far, line, kind)
+    } else {
+        so_far
+    }
 }
 
-fn void_fault(state: &State, x: &Statement, so_far: Option<u64>) -> Option<u64>
-    ensures { result ≡ lesser so_far (least (void_faults state.now x.now)) }
+#[tactic(auto, using(crate::proofs::Walk::first_fault_more))]
+fn void_fault(state: &State, x: &Statement, so_far: Option<LineFault>) -> Option<LineFault>
+    ensures { result ≡ first_of_two so_far (first_fault (void_faults state.now x.now)) }
 {
-    let unknown = worst_if(so_far, matches!(&x.body, Body::Unknown), fault(x.line, 0));
-    let misplaced = worst_if(unknown, is_misplaced(state.section, x), fault(x.line, 1));
-    worst_if(misplaced, matches!(&x.body, Body::Bad(_)), fault(x.line, 2))
+    let unknown = first_if(
+        so_far,
+        matches!(&x.body, Body::Unknown),
+        x.line,
+        FaultKind::Unknown,
+    );
+    let misplaced = first_if(
+        unknown,
+        is_misplaced(state.section, x),
+        x.line,
+        FaultKind::Misplaced,
+    );
+    first_if(
+        misplaced,
+        matches!(&x.body, Body::Bad(_)),
+        x.line,
+        FaultKind::Malformed,
+    )
 }
 
-fn nesting_fault(state: &State, line: u32, body: &Body, so_far: Option<u64>) -> Option<u64>
-    ensures { result ≡ lesser so_far (least (nesting_faults state.now line body.now)) }
+fn nesting_fault(
+    state: &State,
+    line: u32,
+    body: &Body,
+    so_far: Option<LineFault>,
+) -> Option<LineFault>
+    ensures { result ≡ first_of_two so_far (first_fault (nesting_faults state.now line body.now)) }
 {
     let wrong = match body {
         Body::Func(_) => state.func.is_some(),
@@ -75,7 +87,7 @@ fn nesting_fault(state: &State, line: u32, body: &Body, so_far: Option<u64>) -> 
         Body::EndObject => !state.object.is_some(),
         _ => false,
     };
-    worst_if(so_far, wrong, fault(line, 3))
+    first_if(so_far, wrong, line, FaultKind::Unpaired)
 }
 
 /// The address that a target stands for.
@@ -106,39 +118,54 @@ fn reaches(lo: i128, hi: i128, here: u64, a: i128) -> bool
 pub fn jal_reaches(here: u64, a: i128) -> bool
     ensures { result ≡ jal_reaches here a }
 {
-    reaches(-1048576, 1048574, here, a)
+    reaches(-(JAL_REACH as i128), JAL_REACH as i128 - 2, here, a)
 }
 
 /// Whether a branch at `here` reaches an address.
 pub fn branch_reaches(here: u64, a: i128) -> bool
     ensures { result ≡ branch_reaches here a }
 {
-    reaches(-4096, 4094, here, a)
+    reaches(-(BRANCH_REACH as i128), BRANCH_REACH as i128 - 2, here, a)
 }
 
-fn jal_fault(line: u32, here: u64, a: Option<i128>, so_far: Option<u64>) -> Option<u64>
-    ensures { result ≡ lesser so_far (least (jal_faults line here a)) }
+fn jal_fault(line: u32, here: u64, a: Option<i128>, so_far: Option<LineFault>) -> Option<LineFault>
+    ensures { result ≡ first_of_two so_far (first_fault (jal_faults line here a)) }
 {
     match a {
-        None => worst(so_far, fault(line, 5)),
-        Some(a) => worst_if(so_far, !jal_reaches(here, a), fault(line, 6)),
+        None => first(so_far, line, FaultKind::Undefined),
+        Some(a) => first_if(so_far, !jal_reaches(here, a), line, FaultKind::OutOfRange),
     }
 }
 
-fn branch_fault(line: u32, here: u64, a: Option<i128>, so_far: Option<u64>) -> Option<u64>
-    ensures { result ≡ lesser so_far (least (branch_faults line here a)) }
+fn branch_fault(
+    line: u32,
+    here: u64,
+    a: Option<i128>,
+    so_far: Option<LineFault>,
+) -> Option<LineFault>
+    ensures { result ≡ first_of_two so_far (first_fault (branch_faults line here a)) }
 {
     match a {
-        None => worst(so_far, fault(line, 5)),
-        Some(a) => worst_if(so_far, !branch_reaches(here, a), fault(line, 6)),
+        None => first(so_far, line, FaultKind::Undefined),
+        Some(a) => first_if(
+            so_far,
+            !branch_reaches(here, a),
+            line,
+            FaultKind::OutOfRange,
+        ),
     }
 }
 
-fn function_fault(names: &Names, line: u32, name: &[u8], so_far: Option<u64>) -> Option<u64>
-    ensures { result ≡ lesser so_far (least (function_faults names.now line name.now)) }
+fn function_fault(
+    names: &Names,
+    line: u32,
+    name: &[u8],
+    so_far: Option<LineFault>,
+) -> Option<LineFault>
+    ensures { result ≡ first_of_two so_far (first_fault (function_faults names.now line name.now)) }
 {
     let is_function = matches!(names.get(name), Some(Meaning::Function { .. }));
-    worst_if(so_far, !is_function, fault(line, 5))
+    first_if(so_far, !is_function, line, FaultKind::Undefined)
 }
 
 /// The address of the next word of text.
@@ -146,7 +173,7 @@ pub fn text_at(state: &State) -> u64
     requires { state.now.text_len < 2 ^ 60 }
     ensures { result ≡ text_at state.now }
 {
-    65536 + state.text_len
+    TEXT_START + state.text_len
 }
 
 fn aim_fault(
@@ -154,10 +181,10 @@ fn aim_fault(
     state: &State,
     line: u32,
     body: &Body,
-    so_far: Option<u64>,
-) -> Option<u64>
+    so_far: Option<LineFault>,
+) -> Option<LineFault>
     requires { state.now.text_len < 2 ^ 60 }
-    ensures { result ≡ lesser so_far (least (aim_faults names.now state.now line body.now)) }
+    ensures { result ≡ first_of_two so_far (first_fault (aim_faults names.now state.now line body.now)) }
 {
     let here = text_at(state);
     match body {
@@ -166,35 +193,40 @@ fn aim_fault(
         Body::Call(name) | Body::Slot(name) | Body::Entry(name) => {
             function_fault(names, line, name.as_slice(), so_far)
         }
-        Body::OutOfRange { .. } => worst(so_far, fault(line, 6)),
+        Body::OutOfRange { .. } => first(so_far, line, FaultKind::OutOfRange),
         _ => so_far,
     }
 }
 
-fn size_fault(state: &State, line: u32, body: &Body, so_far: Option<u64>) -> Option<u64>
+fn size_fault(state: &State, line: u32, body: &Body, so_far: Option<LineFault>) -> Option<LineFault>
     requires text_len { state.now.text_len < 2 ^ 60 }
     requires data_len { state.now.data_len < 2 ^ 60 }
-    ensures { result ≡ lesser so_far (least (size_faults state.now line body.now)) }
+    ensures { result ≡ first_of_two so_far (first_fault (size_faults state.now line body.now)) }
 {
     let len = if is_data(state.section) {
         state.data_len
     } else {
         state.text_len
     };
-    worst_if(so_far, len + size(body) > 16777216, fault(line, 7))
+    first_if(
+        so_far,
+        len + size(body) > SECTION_LIMIT,
+        line,
+        FaultKind::TooLarge,
+    )
 }
 
-/// The least fault so far and of a statement.
-#[tactic(auto, using(crate::proofs::Walk::least_more))]
+/// The first fault so far and of a statement.
+#[tactic(auto, using(crate::proofs::Walk::first_fault_more))]
 pub fn statement_fault(
     names: &Names,
     state: &State,
     x: &Statement,
-    so_far: Option<u64>,
-) -> Option<u64>
+    so_far: Option<LineFault>,
+) -> Option<LineFault>
     requires text_len { state.now.text_len < 2 ^ 60 }
     requires data_len { state.now.data_len < 2 ^ 60 }
-    ensures { result ≡ lesser so_far (least (faults names.now state.now x.now)) }
+    ensures { result ≡ first_of_two so_far (first_fault (faults names.now state.now x.now)) }
 {
     if is_void(state.section, x) {
         return void_fault(state, x, so_far);
@@ -204,25 +236,26 @@ pub fn statement_fault(
     size_fault(state, x.line, &x.body, aim)
 }
 
-fn open_fault(left: &Option<Open>, so_far: Option<u64>) -> Option<u64>
-    ensures { result ≡ lesser so_far (least (left_open left.now)) }
+fn open_fault(left: &Option<Open>, so_far: Option<LineFault>) -> Option<LineFault>
+    ensures { result ≡ first_of_two so_far (first_fault (left_open left.now)) }
 {
     match left {
-        Some(o) => worst(so_far, fault(o.line, 3)),
+        Some(o) => first(so_far, o.line, FaultKind::Unpaired),
         None => so_far,
     }
 }
 
-/// The least fault so far and at the end.
-#[tactic(auto, using(crate::proofs::Walk::least_more))]
-pub fn end_fault(state: &State, so_far: Option<u64>) -> Option<u64>
-    ensures { result ≡ lesser so_far (least (end_faults state.now)) }
+/// The first fault so far and at the end.
+#[tactic(auto, using(crate::proofs::Walk::first_fault_more))]
+pub fn end_fault(state: &State, so_far: Option<LineFault>) -> Option<LineFault>
+    ensures { result ≡ first_of_two so_far (first_fault (end_faults state.now)) }
 {
     let func = open_fault(&state.func, so_far);
     let object = open_fault(&state.object, func);
-    worst_if(
+    first_if(
         object,
         state.funcs == 0 && !state.func.is_some(),
-        fault(1, 5),
+        1,
+        FaultKind::Undefined,
     )
 }

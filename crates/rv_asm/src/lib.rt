@@ -15,3 +15,9 @@ pub mod step;
 pub mod symbol;
 #[cfg(test)]
 mod tests;
+
+/// The address of the first word of text.
+pub const TEXT_START: u64 = 0x10000;
+
+/// The bytes of a page; data start at a multiple of it.
+pub const PAGE: u64 = 4096;

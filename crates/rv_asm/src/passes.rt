@@ -1,12 +1,13 @@
 //! The two passes over the statements: names, and then faults.
 
 ghost use Rattle.std.specs.Prelude.{◌≡◌, ◌≤◌, ◌<◌, ◌+◌, ◌*◌, ◌^◌, [], length, map, IfOk, OnOk};
-ghost use Rattle.rv_asm.specs.Order.{lesser, least};
+ghost use Rattle.rv_asm.specs.Order.{first_of_two, first_fault};
 ghost use Rattle.rv_asm.specs.State.{start, step, after};
 ghost use Rattle.rv_asm.specs.Names.{add, add_labels, add_own, names_after, names_from, again, labels_again, own_again, name_faults, name_faults_from};
 ghost use Rattle.rv_asm.specs.Faults.{faults, faults_from};
 
-use crate::faults::{end_fault, fault, statement_fault, text_at, worst};
+use crate::fault::{FaultKind, LineFault};
+use crate::faults::{end_fault, first, statement_fault, text_at};
 use crate::meaning::Meaning;
 use crate::names::Names;
 use crate::state::State;
@@ -17,20 +18,20 @@ use asm_text::statement::Statement;
 use oc_base::fault::NoMemory;
 use std::alloc::Global;
 
-/// Gives a name, and the least fault so far and of a name that is given again.
+/// Gives a name, and the first fault so far and of a name that is given again.
 fn give(
     alloc: Global,
     names: &mut Names,
     line: u32,
     name: &Name,
     meaning: Meaning,
-    so_far: Option<u64>,
-) -> Result<Option<u64>, NoMemory>
+    so_far: Option<LineFault>,
+) -> Result<Option<LineFault>, NoMemory>
     ensures names { OnOk result (names.new ≡ add names.old name.now meaning) }
-    ensures fault { IfOk result (λ f. f ≡ lesser so_far (least (again names.old line name.now))) }
+    ensures fault { IfOk result (λ f. f ≡ first_of_two so_far (first_fault (again names.old line name.now))) }
 {
     let fault = match names.get(name.as_slice()) {
-        Some(_) => worst(so_far, fault(line, 4)),
+        Some(_) => first(so_far, line, FaultKind::GivenAgain),
         None => so_far,
     };
     names.add(alloc, name.as_slice(), meaning)?;
@@ -44,10 +45,10 @@ fn give_labels(
     line: u32,
     at: u64,
     labels: &[Name],
-    so_far: Option<u64>,
-) -> Result<Option<u64>, NoMemory>
+    so_far: Option<LineFault>,
+) -> Result<Option<LineFault>, NoMemory>
     ensures names { OnOk result (names.new ≡ add_labels names.old at labels.now) }
-    ensures fault { IfOk result (λ f. f ≡ lesser so_far (least (labels_again names.old line at labels.now))) }
+    ensures fault { IfOk result (λ f. f ≡ first_of_two so_far (first_fault (labels_again names.old line at labels.now))) }
 {
     let mut fault = so_far;
     for i in 0..labels.len() {
@@ -63,11 +64,11 @@ fn give_own(
     state: &State,
     line: u32,
     body: &Body,
-    so_far: Option<u64>,
-) -> Result<Option<u64>, NoMemory>
+    so_far: Option<LineFault>,
+) -> Result<Option<LineFault>, NoMemory>
     requires { state.now.text_len < 2 ^ 60 }
     ensures names { OnOk result (names.new ≡ add_own names.old state.now body.now) }
-    ensures fault { IfOk result (λ f. f ≡ lesser so_far (least (own_again names.old line body.now))) }
+    ensures fault { IfOk result (λ f. f ≡ first_of_two so_far (first_fault (own_again names.old line body.now))) }
 {
     match body {
         Body::Func(name) => {
@@ -83,17 +84,17 @@ fn give_own(
 }
 
 /// Gives the names of a statement.
-#[tactic(auto, using(crate::proofs::Walk::least_more))]
+#[tactic(auto, using(crate::proofs::Walk::first_fault_more))]
 fn give_all(
     alloc: Global,
     names: &mut Names,
     state: &State,
     x: &Statement,
-    so_far: Option<u64>,
-) -> Result<Option<u64>, NoMemory>
+    so_far: Option<LineFault>,
+) -> Result<Option<LineFault>, NoMemory>
     requires { state.now.text_len < 2 ^ 60 }
     ensures names { OnOk result (names.new ≡ names_after names.old state.now x.now) }
-    ensures fault { IfOk result (λ f. f ≡ lesser so_far (least (name_faults names.old state.now x.now))) }
+    ensures fault { IfOk result (λ f. f ≡ first_of_two so_far (first_fault (name_faults names.old state.now x.now))) }
 {
     let at = text_at(state);
     let labels = give_labels(alloc, names, x.line, at, x.labels.as_slice(), so_far)?;
@@ -103,12 +104,15 @@ fn give_all(
     give_own(alloc, names, state, x.line, &x.body, labels)
 }
 
-/// The names of a text, and the least fault of a name that is given again.
+/// The names of a text, and the first fault of a name that is given again.
 #[tactic(auto, using(crate::proofs::Walk::names_step, crate::proofs::Walk::name_faults_step, crate::proofs::Walk::names_done, crate::proofs::Walk::name_faults_done))]
-pub fn first_pass(alloc: Global, items: &[Statement]) -> Result<(Names, Option<u64>), NoMemory>
+pub fn first_pass(
+    alloc: Global,
+    items: &[Statement],
+) -> Result<(Names, Option<LineFault>), NoMemory>
     requires { length items.now < 2 ^ 30 }
     ensures names { IfOk result (λ r. r.0 ≡ names_from [] start items.now) }
-    ensures fault { IfOk result (λ r. r.1 ≡ least (name_faults_from [] start items.now)) }
+    ensures fault { IfOk result (λ r. r.1 ≡ first_fault (name_faults_from [] start items.now)) }
 {
     let mut names = Names::new(alloc);
     let mut state = start();
@@ -121,18 +125,18 @@ pub fn first_pass(alloc: Global, items: &[Statement]) -> Result<(Names, Option<u
     Ok((names, fault))
 }
 
-/// The least fault of all, and the state at the end.
+/// The first fault of all, and the state at the end.
 #[tactic(auto, using(crate::proofs::Walk::faults_step, crate::proofs::Walk::faults_done, crate::proofs::Walk::after_step, crate::proofs::Walk::after_done))]
 pub fn second_pass(
     alloc: Global,
     names: &Names,
     items: &[Statement],
-    so_far: Option<u64>,
-) -> Result<(State, Option<u64>), NoMemory>
+    so_far: Option<LineFault>,
+) -> Result<(State, Option<LineFault>), NoMemory>
     requires { length items.now < 2 ^ 30 }
     ensures state { IfOk result (λ r. r.0 ≡ after start items.now) }
     ensures text_len { IfOk result (λ r. r.0.text_len < 2 ^ 60) }
-    ensures fault { IfOk result (λ r. r.1 ≡ lesser so_far (least (faults_from names.now start items.now))) }
+    ensures fault { IfOk result (λ r. r.1 ≡ first_of_two so_far (first_fault (faults_from names.now start items.now))) }
 {
     let mut state = start();
     let mut fault = so_far;

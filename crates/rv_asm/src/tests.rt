@@ -158,7 +158,7 @@ fn the_first_fault_is_told(rt: HostRuntime) -> Result<(), NoMemory> {
     check_faults(&rt, FAULTS)
 }
 
-// Two faults in one line, of which the second statement's is told: each two of the kinds 1, 7, 2, 6, 5, 4, 3 and 8.
+// Two faults in one line, of which the second statement's is reported: each two of the kinds 1, 7, 2, 6, 5, 4, 3 and 8.
 const PAIRS: &str = "\
 .func f/.byte 1;go/.end => 2 1
 .func f/ret x1;go/.end => 2 1

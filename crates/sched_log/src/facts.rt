@@ -2,16 +2,21 @@
 
 use blocks::fault::Unreadable;
 use oc_base::items::Items;
+use thiserror::Error;
 
 /// Why a replacement was refused.
-#[derive(Clone, Copy, Debug, PartialEq, Eq)]
+#[derive(Clone, Copy, Debug, PartialEq, Eq, Error)]
 pub enum Refusal {
     /// No free range of the region has so many bytes; the largest one has these.
+    #[error("the region has no free range of {need} bytes: its largest has {largest}")]
     RegionFull { need: u64, largest: u64 },
     /// The word at an address can't reach its target from there.
+    #[error("the word at {at:#x} can't reach {target:#x}")]
     BranchReach { at: u64, target: u64 },
-    /// A function, by its number, can't be cut into blocks. The cause is never want of memory.
+    /// A function, by its number, can't be cut into blocks. The cause is never `NoMemory`.
+    #[error("function {func} can't be cut into blocks: {why}")]
     Unreadable { func: u32, why: Unreadable },
+    #[error("out of memory")]
     NoMemory,
 }
 

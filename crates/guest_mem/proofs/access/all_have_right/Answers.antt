@@ -10,8 +10,8 @@ returns-then-n-eq0-clause-value g c =
     let s = with_right (g.S.WordStore.contents c.args.store.now) c.args.right in
     sym (ap (contains_all s c.args.at) c.if-n-eq0.true ∙ all-none s c.args.at)
 
-pub returns-then-saturating_add-gt-END-clause-value : goal.returns-then-saturating_add-gt-END-clause-value
-returns-then-saturating_add-gt-END-clause-value g c =
+pub returns-then-saturating_add-gt-GUEST_END-clause-value : goal.returns-then-saturating_add-gt-GUEST_END-clause-value
+returns-then-saturating_add-gt-GUEST_END-clause-value g c =
     let s = with_right (g.S.WordStore.contents c.args.store.now) c.args.right in
     sym (not_true (contains_all s c.args.at c.args.n) (λ e. (let h = end_of s c.args.at c.args.n (c.bounded.ensures.rights c.args.right) (omega arith) e in absurd (omega arith))))
 
