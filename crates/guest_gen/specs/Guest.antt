@@ -109,7 +109,7 @@ write_and_end =
     li A0 (pos 1) ∷ addi A1 S0 parts ∷ li A2 (pos 2) ∷ li A7 writev ∷ ecall
     ∷ li A0 (pos 0) ∷ li A7 exit_group ∷ ecall ∷ []
 
--- what a thread does: it calls worker, which stands behind, and exits
+-- what a thread does: it calls worker, which comes after it, and exits
 abbrev pub be_thread : List Code
 be_thread = jal Ra (ahead 4) ∷ li A0 (pos 0) ∷ li A7 exit ∷ ecall ∷ []
 

@@ -68,7 +68,7 @@ impl Refusal {
         }
     }
 
-    // The line as a text. There is no memory for that of want of memory.
+    // The line as a text. Out of memory has none, since it would take memory.
     fn text(&self, alloc: Global) -> Result<String, AllocError>
         ensures line { IfOk result (λ text. string_bytes text ≡ line_of self.now) }
         ensures memory { self.now ≡ Refusal.NoMemory → IsErr result }
@@ -88,7 +88,7 @@ impl Refusal {
         }
     }
 
-    /// The line that tells of the refusal, with its newline. There is no memory for that of want of memory.
+    /// The line that tells of the refusal, with its newline. Out of memory has none, since it would take memory.
     pub fn line(&self, alloc: Global) -> Result<Items<u8>, NoMemory>
         ensures line { IfOk result (λ line. line ≡ line_of self.now) }
         ensures memory { IfOk result (λ _. self.now ≢ Refusal.NoMemory) }

@@ -82,7 +82,7 @@ fn push_slots(funcs: &[Named], bytes: &mut Vec<u8>) -> Result<(), NoMemory>
     Ok(())
 }
 
-// The table of the functions from the third on, and what stands behind it.
+// The table of the functions from the third on, and what comes after it.
 fn data(alloc: Global, funcs: &[Named]) -> Result<Vec<u8>, NoMemory>
     requires { 2 ≤ length funcs.now }
     ensures { IfOk result (λ bytes. bytes.items ≡ data_of funcs.now) }

@@ -1,6 +1,6 @@
 -- What a system call does, as a value that is computed from what it reads: the registers, the state of the system, the
 -- memory as the program sees it (`seen`, a function of an address), and the bytes with rights. A second definition says
--- what it leaves in memory. So calls that read alike do alike, whatever stands behind what they read.
+-- what it leaves in memory. So calls that read alike do alike, whatever comes after what they read.
 -- Source: the manual pages of Linux for each call, of which this project serves a part; the numbers of errors are errno's.
 use Rattle.std.specs.Prelude.{◌≡◌, ℕ, ◌+◌, ◌-◌, ◌*◌, ◌%◌, ◌^◌, ◌==◌, ◌&&◌, ◌||◌, Bool, true, false, not, nat_le, nat_lt, min, List, [], ◌∷◌, ◌++◌, length, take, drop, map, get_or, Option, Some, None, Result, Ok, Err, bit_and, if◌then◌else◌}
 use Rattle.std.specs.List.{range_with_len, flat_map, list_all}

@@ -20,7 +20,7 @@ use std::alloc::Global;
 
 /// Serves the call that hart `h`, whose clear address is `clear`, makes by these values of `x10` to `x17`.
 ///
-/// On want of memory all is as it was.
+/// Where it is out of memory all is as it was.
 #[tactic(auto, unfolding(crate::specs::Calls::asked))]
 pub fn syscall<M: GuestStore, O: Origins>(
     alloc: Global,

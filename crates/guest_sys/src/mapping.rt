@@ -9,6 +9,7 @@ use crate::answers::{Error, answer, failure};
 use crate::effect::Effect;
 use crate::flags::has;
 use crate::state::Sys;
+use guest_mem::PAGE;
 use guest_mem::store::GuestStore;
 use oc_base::fault::NoMemory;
 use oc_base::range::Range;
@@ -19,7 +20,7 @@ fn pages(n: u64) -> u64
     requires { n ≤ map_end }
     ensures { result ≡ pages n }
 {
-    4096 * ((n + 4095) / 4096)
+    PAGE * ((n + (PAGE - 1)) / PAGE)
 }
 
 /// The pages from `at` on that hold `len` bytes, where they lie among those of mappings.
@@ -81,7 +82,7 @@ pub(crate) fn munmap<M: GuestStore>(
 ) -> Result<Effect, NoMemory>
     ensures { (origin : ℕ → ℕ) → Does origin (λ see readable writable s. munmap s at len) sys.old sys.new (M.contents mem.old) (M.contents mem.new) result }
 {
-    if at % 4096 != 0 || len == 0 {
+    if at % PAGE != 0 || len == 0 {
         return Ok(failure(alloc, Error::Invalid));
     }
     let Some(range) = mapping(sys, at, len) else {
@@ -139,7 +140,7 @@ pub(crate) fn mprotect<M: GuestStore>(
 ) -> Result<Effect, NoMemory>
     ensures { (origin : ℕ → ℕ) → Does origin (λ see readable writable s. mprotect s at len rights) sys.now sys.now (M.contents mem.old) (M.contents mem.new) result }
 {
-    if at % 4096 != 0 {
+    if at % PAGE != 0 {
         return Ok(failure(alloc, Error::Invalid));
     }
     if has(rights, 4) {

@@ -41,7 +41,7 @@ struct Guest {
 
 impl Guest {
     /// A guest whose input is `hello`, with the break at 0x200000. At its clear address it has a page that may be read and written,
-    /// and behind it one that may only be read.
+    /// and after it one that may only be read.
     fn new(alloc: Global) -> Result<Guest, NoMemory> {
         let input = Vec::from_slice(alloc, b"hello")?;
         let mut guest = Guest {

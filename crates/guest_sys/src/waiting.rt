@@ -17,7 +17,7 @@ use oc_base::items::Items;
 use rv_isa::instr::Width;
 use std::alloc::Global;
 
-/// Waiting harts, parted by whether they are among the first at an address.
+/// Waiting harts, divided by whether they are among the first at an address.
 #[derive(Debug, Drop)]
 struct Parted {
     first: Items<Waiter>,

@@ -51,13 +51,13 @@ uses (Fence rd rs1 imm) a b = []
 uses Ecall a b = []
 uses Ebreak a b = []
 
-abbrev pub fault_of : Use → LinkFault
-fault_of u = record { rule = u.rule; reg = u.reg }
+abbrev pub link_fault : Use → LinkFault
+link_fault u = record { rule = u.rule; reg = u.reg }
 
 -- the first of some uses that finds a link
 abbrev pub first_link : List Use → Option LinkFault
 first_link [] = None
-first_link (u ∷ us) = if is_link u.value.tag then Some (fault_of u) else first_link us
+first_link (u ∷ us) = if is_link u.value.tag then Some (link_fault u) else first_link us
 
 -- the first forbidden use of a register
 abbrev pub forbidden : Instr → Value → Value → Option LinkFault
