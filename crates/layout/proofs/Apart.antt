@@ -6,7 +6,7 @@ use Rattle.std.specs.Option.{IsSomeAnd}
 use Rattle.std.proofs.lemmas.Bool.{cases_order}
 use Rattle.std.proofs.lemmas.Option.{slice_get_within, get_or_from_slice_get}
 use Rattle.layout.specs.Laid.{Laid}
-use Rattle.layout.specs.Apart.{LieApart, AreApart, Covers, LiesIn}
+use Rattle.layout.specs.Apart.{LieApart, AreApart, Covers}
 
 -- what stands at a place
 pub there : {X : Type 0} (xs : List X) (k : ℕ) (P : X → Type 0) → IsSomeAnd (slice_get xs k) P → (x : X) × (slice_get xs k ≡ Some x) × P x

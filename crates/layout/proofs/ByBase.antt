@@ -82,7 +82,7 @@ sorted lives noted places e same rises = record {
   rises = rises;
   each = λ k l at some. (
       let c = Contains-permutation (places_from 0 lives) places (at_place k l) all
-          (subst (λ (j : ℕ). Contains (places_from 0 lives) (at_place j l)) (let z : 0 + k ≡ k = omega arith in z) (each 0 k lives l at some)) in
+      (subst (λ (j : ℕ). Contains (places_from 0 lives) (at_place j l)) (let z : 0 + k ≡ k = omega arith in z) (each 0 k lives l at some)) in
       list_any-from_Any (λ q. (q.base == l.base) && (q.position == k)) places (c.0, at_place k l, c.1, c.2, rw (eq-eqb l.base l.base refl, eq-eqb k k refl) refl));
   only = λ i q lt. (
       let o = All-permutation (IsOf 0 lives) (places_from 0 lives) places all (only 0 lives) i q lt in
