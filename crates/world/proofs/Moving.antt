@@ -28,7 +28,9 @@ use Rattle.world.specs.Fetching.{led_by, led}
 use Rattle.world.specs.declared.counts.Counts.{Counts}
 use Rattle.world.specs.Worlds.{Replaced, code_of, IsSound, IsWorld, kind_of, counted, step_of}
 use Rattle.world.specs.Runs.{taken_back}
+use Rattle.world.specs.Rings.{with_transfer}
 use Rattle.world.proofs.Following.{code_sound}
+use Rattle.world.proofs.Noting.{layout_none}
 use Rattle.world.proofs.Fetching.{text_step}
 
 pub layout_made : (h : ℕ) (w : Replaced) → is_layout (kind_of h w) ≡ true → h < length w.machine.harts
@@ -73,7 +75,11 @@ layout_step_is h w s l =
     let inside = inside_region w hart.pc k.at in
     let is = led_is w.image (code_of w) s.kept (code_sound w s) s.placed.renders h w.machine k
     ∙ ap (λ (x : Hart). with_hart h x w.machine) (led_hart (read (code_of w).word hart.pc) hart ∙ ap (λ o. led (led_by o hart.pc) hart) (word_inside w hart.pc inside)) in
-    sym (λ i. record w { machine = is i; counts = counted (is_layout_kind (kind_of h w) l i) w.counts })
+    sym (λ i. record w {
+      machine = is i;
+      counts = counted (is_layout_kind (kind_of h w) l i) w.counts;
+      rings = with_transfer h (layout_none w.image (code_of w) h w.machine l i) w.rings;
+    })
 
 -- the same for a world v that is w, where what is written was worked out by reads
 pub layout_made_is : (h : ℕ) (v w : Replaced) → v ≡ w → (hart : Hart) (lives : List Laid) (word : Option ℕ) (l : Led) (m : State) (n : Counts)

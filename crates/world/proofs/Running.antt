@@ -1,12 +1,11 @@
 -- A run follows the original one.
 use Rattle.std.proofs.Common.{◌≡◌, ℕ, zero, suc, Bool, true, false, List, [], ◌∷◌, ◌++◌, refl, sym, ap, ◌∙◌, subst}
-use Rattle.std.specs.Prelude.{None, is_some, if◌then◌else◌}
+use Rattle.std.specs.Prelude.{is_some, if◌then◌else◌}
 use Rattle.image.specs.Picture.{Picture}
 use Rattle.guest_sys.specs.State.{IsOrderly}
 use Rattle.machine.specs.States.{State}
 use Rattle.machine.specs.Steps.{original_step, original_run}
 use Rattle.plans.specs.declared.plan.Moved.{Moved}
-use Rattle.plans.specs.Given.{plan_fault}
 use Rattle.sim_laws.specs.declared.stepped.Stepped.{Stepped}
 use Rattle.sim_laws.specs.declared.stepped.Stepped.TheVariants.{Real, Layout, Over}
 use Rattle.sim_laws.specs.Steps.{original_after, is_layout}
@@ -15,10 +14,11 @@ use Rattle.world.specs.Worlds.{Replaced, IsWorld, code_of, Related, kind_of, ste
 use Rattle.world.specs.Replacing.{Replaces, over, done, refused}
 use Rattle.world.specs.Retiring.{Retires}
 use Rattle.world.specs.Retiring as retirement
-use Rattle.world.specs.Runs.{until_real, real_kind_of, Atom, a_step, a_real_step, a_replacement, a_retirement, Makes, of_real, harts_of, IsRun, IsStretched, no_more, real, replacing, retiring, AreHartsOf}
+use Rattle.world.specs.Runs.{until_real, real_kind_of, Atom, a_step, a_real_step, a_replacement, a_retirement, a_snap, Makes, of_real, harts_of, IsRun, IsStretched, no_more, real, replacing, retiring, snapping, AreHartsOf}
 use Rattle.world.proofs.Following.{step_follows, until_follows, real_follows, real_over, never_layout, ended_over}
 use Rattle.world.proofs.RelatedAgain.{replaces_sound, replaces_related}
 use Rattle.world.proofs.Retirement.{retires_sound, retires_related}
+use Rattle.world.proofs.Snapping.{snaps_sound, snaps_related, snaps_orderly, snaps_image, snaps_ended}
 use Rattle.world.proofs.Stepping.{until_orderly, until_image, ended_step, ended_real}
 
 run_append : (p : Picture) (xs ys : List ℕ) (o : State) → original_run p (xs ++ ys) o ≡ original_run p ys (original_run p xs o)
@@ -32,12 +32,13 @@ by_real v Layout p h o r = r
 by_real v Over p h o r = r
 
 -- ---- one after another
-made_follows : (a : Atom) (w v : Replaced) (o : State) → IsOrderly w.machine.system → Makes a w v → Related w o → Related v (original_run w.image (harts_of a w) o)
+pub made_follows : (a : Atom) (w v : Replaced) (o : State) → IsOrderly w.machine.system → Makes a w v → Related w o → Related v (original_run w.image (harts_of a w) o)
 made_follows (a_step h) w v o q m r = by_real v (kind_of h w) w.image h o (step_follows w v h (kind_of h w) q refl m o r)
 made_follows (a_real_step h) w v o q m r =
     by_real v (real_kind_of h w) w.image h o (subst (λ (x : Replaced). Related x (original_after (real_kind_of h w) w.image h o)) (sym m) (until_follows 3 h w o q r))
 made_follows (a_replacement plan) w v o q m r = replaces_related plan w v o m.0 m.1 r
 made_follows a_retirement w v o q m r = retires_related w v o m r
+made_follows a_snap w v o q m r = snaps_related w v o m r
 
 replaces_orderly : (plan : List Moved) (w v : Replaced) → Replaces plan w v → IsOrderly w.machine.system → IsOrderly v.machine.system
 replaces_orderly plan w v (over b f) q = subst (λ (x : Replaced). IsOrderly x.machine.system) (sym f) q
@@ -52,11 +53,12 @@ step_orderly : (h : ℕ) (w : Replaced) → IsOrderly w.machine.system → IsOrd
 unfolding step_of
 step_orderly h w q = replaced_orderly w.image (code_of w) h w.machine q
 
-made_orderly : (a : Atom) (w v : Replaced) → Makes a w v → IsOrderly w.machine.system → IsOrderly v.machine.system
+pub made_orderly : (a : Atom) (w v : Replaced) → Makes a w v → IsOrderly w.machine.system → IsOrderly v.machine.system
 made_orderly (a_step h) w v m q = subst (λ (x : Replaced). IsOrderly x.machine.system) (sym m) (step_orderly h w q)
 made_orderly (a_real_step h) w v m q = subst (λ (x : Replaced). IsOrderly x.machine.system) (sym m) (until_orderly 3 h w q)
 made_orderly (a_replacement plan) w v m q = replaces_orderly plan w v m.1 q
 made_orderly a_retirement w v m q = retires_orderly w v m q
+made_orderly a_snap w v m q = snaps_orderly w v m q
 
 replaces_image : (plan : List Moved) (w v : Replaced) → Replaces plan w v → v.image ≡ w.image
 replaces_image plan w v (over b f) = ap (λ (x : Replaced). x.image) f
@@ -71,11 +73,12 @@ step_image : (h : ℕ) (w : Replaced) → (step_of h w).image ≡ w.image
 unfolding step_of
 step_image h w = refl
 
-made_image : (a : Atom) (w v : Replaced) → Makes a w v → v.image ≡ w.image
+pub made_image : (a : Atom) (w v : Replaced) → Makes a w v → v.image ≡ w.image
 made_image (a_step h) w v m = ap (λ (x : Replaced). x.image) m ∙ step_image h w
 made_image (a_real_step h) w v m = ap (λ (x : Replaced). x.image) m ∙ until_image 3 h w
 made_image (a_replacement plan) w v m = replaces_image plan w v m.1
 made_image a_retirement w v m = retires_image w v m
+made_image a_snap w v m = snaps_image w v m
 
 -- ---- each world keeps what it keeps
 step_sound : (h : ℕ) (w : Replaced) → IsWorld w → IsWorld (step_of h w)
@@ -96,6 +99,7 @@ made_sound (a_step h) w v m s = subst IsWorld (sym m) (step_sound h w s)
 made_sound (a_real_step h) w v m s = subst IsWorld (sym m) (until_sound 3 h w s)
 made_sound (a_replacement plan) w v m s = replaces_sound plan w v m.0 m.1 s
 made_sound a_retirement w v m s = retires_sound w v m s
+made_sound a_snap w v m s = snaps_sound w v m s
 
 pub run_sound : (atoms : List Atom) (hs : List ℕ) (w v : Replaced) → IsRun atoms hs w v → IsWorld w → IsWorld v
 run_sound [] hs w v m s = subst IsWorld (sym m.1) s
@@ -127,6 +131,10 @@ stretched_follows hs gs atoms w v o q (retiring {atoms = rest} t) m r =
     let u = m.0 in
     let later = stretched_follows hs m.1 rest u v o (made_orderly a_retirement w u m.2 q) t m.4 (retires_related w u o m.2 r) in
     subst (λ (p : Picture). Related v (original_run p hs o)) (made_image a_retirement w u m.2) later
+stretched_follows hs gs atoms w v o q (snapping {atoms = rest} t) m r =
+    let u = m.0 in
+    let later = stretched_follows hs m.1 rest u v o (made_orderly a_snap w u m.2 q) t m.4 (snaps_related w u o m.2 r) in
+    subst (λ (p : Picture). Related v (original_run p hs o)) (made_image a_snap w u m.2) later
 
 -- ---- a run that has ended stays so
 replaces_ended : (plan : List Moved) (w v : Replaced) → Replaces plan w v → is_some w.machine.outcome ≡ true → v ≡ w
@@ -143,12 +151,14 @@ made_ended (a_step h) w v m e = m ∙ ended_step h w e
 made_ended (a_real_step h) w v m e = m ∙ ended_real h w e
 made_ended (a_replacement plan) w v m e = replaces_ended plan w v m.1 e
 made_ended a_retirement w v m e = retires_ended w v m e
+made_ended a_snap w v m e = snaps_ended w v m e
 
 none_real : (a : Atom) (w : Replaced) → IsWorld w → is_some w.machine.outcome ≡ true → harts_of a w ≡ []
 none_real (a_step h) w s e = ap (λ k. of_real k h) (ended_over (code_of w) h w.machine e)
 none_real (a_real_step h) w s e = ap (λ k. of_real k h) ((real_over w h (real_kind_of h w) s refl).1 e)
 none_real (a_replacement plan) w s e = refl
 none_real a_retirement w s e = refl
+none_real a_snap w s e = refl
 
 pub run_ended : (atoms : List Atom) (gs : List ℕ) (w v : Replaced) → IsRun atoms gs w v → IsWorld w → is_some w.machine.outcome ≡ true → (gs ≡ []) × (v ≡ w)
 run_ended [] gs w v m s e = m
@@ -179,6 +189,8 @@ stretched_harts hs gs atoms w v (replacing {atoms = rest} plan t) m s =
     subst (λ (xs : List ℕ). AreHartsOf hs xs (is_some v.machine.outcome)) (sym m.3) (stretched_harts hs m.1 rest m.0 v t m.4 (made_sound (a_replacement plan) w m.0 m.2 s))
 stretched_harts hs gs atoms w v (retiring {atoms = rest} t) m s =
     subst (λ (xs : List ℕ). AreHartsOf hs xs (is_some v.machine.outcome)) (sym m.3) (stretched_harts hs m.1 rest m.0 v t m.4 (made_sound a_retirement w m.0 m.2 s))
+stretched_harts hs gs atoms w v (snapping {atoms = rest} t) m s =
+    subst (λ (xs : List ℕ). AreHartsOf hs xs (is_some v.machine.outcome)) (sym m.3) (stretched_harts hs m.1 rest m.0 v t m.4 (made_sound a_snap w m.0 m.2 s))
 stretched_harts hs gs atoms w v (real {hs = ks} {atoms = rest} h t) m s =
     by_kind (real_kind_of h w) refl (stretched_harts ks m.1 rest m.0 v t m.4 (made_sound (a_real_step h) w m.0 m.2 s))
   where

@@ -69,9 +69,9 @@ start_sound p k = record {
   rest = λ a. rest_piece p.region.from p.region.to a (nat_lt p.region.from p.region.to) refl;
 }
 
-pub started_related : (p : Picture) (input : List ℕ) → IsKept p → Related (started p input) (start_of p input)
-started_related p input k = record {
-  states = start_itself p k (code_of (started p input)) (code_is p (word_at p.texts) [] (record { laid = λ i d lt. absurd (omega (arith, lt)); hops = λ i d lt. absurd (omega (arith, lt)) })) input;
+pub started_related : (p : Picture) (ring : ℕ) (input : List ℕ) → IsKept p → Related (started p ring input) (start_of p input)
+started_related p ring input k = record {
+  states = start_itself p k (code_of (started p ring input)) (code_is p (word_at p.texts) [] (record { laid = λ i d lt. absurd (omega (arith, lt)); hops = λ i d lt. absurd (omega (arith, lt)) })) input;
   sound = start_sound p k;
 }
 

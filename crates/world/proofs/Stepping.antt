@@ -14,6 +14,8 @@ use Rattle.sim_laws.proofs.LayoutSteps.{layout_of}
 use Rattle.sim_laws.proofs.Orderly.{replaced_orderly}
 use Rattle.world.specs.Worlds.{Replaced, code_of, IsSound, Related, kind_of, step_of, counted}
 use Rattle.world.specs.Runs.{is_over, until_real, real_step_of, real_kind_of, real_steps_of}
+use Rattle.world.specs.Rings.{with_transfer}
+use Rattle.world.proofs.Noting.{ended_none}
 use Rattle.world.proofs.Following.{ended_stays, ended_over, real_over, real_follows}
 
 pub sound_after : (w v : Replaced) (h : ℕ) → v ≡ step_of h w → IsSound w.image w.text w.lives w.numbers w.free → IsSound v.image v.text v.lives v.numbers v.free
@@ -82,7 +84,11 @@ steps_more n h w v new e f = rw (add-one n) (f ∙ ap (real_step_of h) e ∙ tur
 pub ended_step : (h : ℕ) (w : Replaced) → is_some w.machine.outcome ≡ true → step_of h w ≡ w
 unfolding step_of replaced_step
 ended_step h w e =
-    (λ i. record w { machine = ended_stays (code_of w).word (origin (code_of w)) w.image h w.machine e i; counts = counted (ended_over (code_of w) h w.machine e i) w.counts })
+    (λ i. record w {
+      machine = ended_stays (code_of w).word (origin (code_of w)) w.image h w.machine e i;
+      counts = counted (ended_over (code_of w) h w.machine e i) w.counts;
+      rings = with_transfer h (ended_none w.image (code_of w) h w.machine e i) w.rings;
+    })
 
 pub ended_real : (h : ℕ) (w : Replaced) → is_some w.machine.outcome ≡ true → real_step_of h w ≡ w
 unfolding until_real

@@ -26,7 +26,7 @@ pub facts_as : (u w : Replaced) → u ≡ w → (retired : ℕ) (refusals : List
     → record {
       real = u.counts.real;
       layout = u.counts.layout;
-      snaps = 0;
+      snaps = u.counts.snaps;
       attempts = u.counts.attempts;
       done = u.counts.done;
       retired = retired;
@@ -45,7 +45,7 @@ facts_as u w e retired refusals sites slots layouts harts r links slot_list numb
     (λ i. record {
       real = u.counts.real;
       layout = u.counts.layout;
-      snaps = 0;
+      snaps = u.counts.snaps;
       attempts = u.counts.attempts;
       done = u.counts.done;
       retired = retired_is i;

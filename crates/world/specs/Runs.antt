@@ -12,6 +12,7 @@ use Rattle.world.specs.Fetching.{led}
 use Rattle.world.specs.Worlds.{Replaced, code_of, kind_of, step_of}
 use Rattle.world.specs.Replacing.{Replaces}
 use Rattle.world.specs.Retiring.{Retires}
+use Rattle.world.specs.Records.{Snaps}
 
 abbrev pub is_real : Stepped → Bool
 is_real kind.Real = true
@@ -55,6 +56,7 @@ pub data Atom : Type 0 where
   a_real_step : (h : ℕ) → Atom
   a_replacement : (plan : List Moved) → Atom
   a_retirement : Atom
+  a_snap : Atom
 
 -- the world v is w after this; code is moved by a plan of the image
 abbrev pub Makes : Atom → Replaced → Replaced → Type 0
@@ -62,6 +64,7 @@ Makes (a_step h) w v = v ≡ step_of h w
 Makes (a_real_step h) w v = v ≡ real_step_of h w
 Makes (a_replacement plan) w v = (plan_fault w.image plan ≡ None) × Replaces plan w v
 Makes a_retirement w v = Retires w v
+Makes a_snap w v = Snaps w v
 
 abbrev pub of_real : Stepped → ℕ → List ℕ
 of_real k h = if is_real k then h ∷ [] else []
@@ -72,18 +75,20 @@ harts_of (a_step h) w = of_real (kind_of h w) h
 harts_of (a_real_step h) w = of_real (real_kind_of h w) h
 harts_of (a_replacement plan) w = []
 harts_of a_retirement w = []
+harts_of a_snap w = []
 
 -- the world v is w after these in turn, and these are the harts of the real steps
 abbrev pub IsRun : List Atom → List ℕ → Replaced → Replaced → Type 0
 IsRun [] hs w v = (hs ≡ []) × (v ≡ w)
 IsRun (a ∷ more) hs w v = (u : Replaced) × (later : List ℕ) × Makes a w u × (hs ≡ harts_of a w ++ later) × IsRun more later u v
 
--- for each hart of a list one real step, with replacements and retirements put in at any places
+-- for each hart of a list one real step, with replacements, retirements and snapshots put in at any places
 pub data IsStretched : List ℕ → List Atom → Type 0 where
   no_more : IsStretched [] []
   real : {hs : List ℕ} {atoms : List Atom} → (h : ℕ) → IsStretched hs atoms → IsStretched (h ∷ hs) (a_real_step h ∷ atoms)
   replacing : {hs : List ℕ} {atoms : List Atom} → (plan : List Moved) → IsStretched hs atoms → IsStretched hs (a_replacement plan ∷ atoms)
   retiring : {hs : List ℕ} {atoms : List Atom} → IsStretched hs atoms → IsStretched hs (a_retirement ∷ atoms)
+  snapping : {hs : List ℕ} {atoms : List Atom} → IsStretched hs atoms → IsStretched hs (a_snap ∷ atoms)
 
 -- the harts of real steps are those of a list, in order and each of them as long as the run goes on
 pub record AreHartsOf (hs gs : List ℕ) (has_ended : Bool) : Type 0 where

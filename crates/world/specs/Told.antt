@@ -53,12 +53,11 @@ layout_facts _ _ = []
 abbrev pub retired_in : Replaced → ℕ
 retired_in w = w.counts.placed - length w.lives
 
--- No snapshot has been taken.
 unfoldable pub facts_of : Replaced → Facts
 facts_of w = record {
   real = w.counts.real;
   layout = w.counts.layout;
-  snaps = 0;
+  snaps = w.counts.snaps;
   attempts = w.counts.attempts;
   done = w.counts.done;
   retired = retired_in w;

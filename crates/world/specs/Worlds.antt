@@ -13,6 +13,8 @@ use Rattle.layout.specs.Points.{Code, in_range, live_at, here_point}
 use Rattle.layout.specs.Points as points
 use Rattle.layout.specs.Rows.{CallsAim}
 use Rattle.layout.specs.Alone.{InRegion}
+use Rattle.branch_ring.specs.declared.counted.Counted.{Counted}
+use Rattle.branch_ring.specs.Rings.{Notes}
 use Rattle.machine.specs.Start.{start_of}
 use Rattle.machine.specs.States.{State}
 use Rattle.patcher.specs.Patched.{LieApart, IsPlaced}
@@ -22,8 +24,9 @@ use Rattle.sim_laws.specs.declared.stepped.Stepped.{Stepped}
 use Rattle.sim_laws.specs.declared.stepped.Stepped.TheVariants as kind
 use Rattle.sim_laws.specs.Codes.{GoesToWord}
 use Rattle.sim_laws.specs.Related.{StatesRelated}
-use Rattle.sim_laws.specs.Steps.{replaced_step, stepped}
+use Rattle.sim_laws.specs.Steps.{replaced_step, replaced_transfer, stepped}
 use Rattle.world.specs.declared.counts.Counts.{Counts}
+use Rattle.world.specs.Rings.{empty_rings, with_transfer}
 
 pub record Replaced : Type 0 where
   pub image : Picture
@@ -38,6 +41,10 @@ pub record Replaced : Type 0 where
   pub counts : Counts
   -- the refused attempts, in their order
   pub refusals : List Refused
+  -- the last transfers of each hart, by original addresses
+  pub rings : List Notes
+  -- the profile of the last snapshot
+  pub snapshot : List Counted
 
 -- the code of an image with these words of text and these live layouts, as functions of an address
 abbrev pub code_in : Picture → List TextRange → List Laid → Code
@@ -76,17 +83,19 @@ pub record IsSound (p : Picture) (text : List TextRange) (lives : List Laid) (nu
 abbrev pub IsWorld : Replaced → Type 0
 IsWorld w = IsSound w.image w.text w.lives w.numbers w.free
 
--- before the first step: no layout is live, all of the region is free, and the text is the image's
-abbrev pub started : Picture → (input : List ℕ) → Replaced
-started p input = record {
+-- before the first step: no layout is live, all of the region is free, the text is the image's, and nothing is recorded
+abbrev pub started : Picture → (ring : ℕ) → (input : List ℕ) → Replaced
+started p ring input = record {
   image = p;
   text = p.texts;
   lives = [];
   numbers = [];
   free = piece p.region.from p.region.to;
   machine = start_of p input;
-  counts = record { real = 0; layout = 0; attempts = 0; done = 0; placed = 0 };
+  counts = record { real = 0; layout = 0; snaps = 0; attempts = 0; done = 0; placed = 0 };
   refusals = [];
+  rings = empty_rings ring;
+  snapshot = [];
 }
 
 -- the world stands for a state of the original machine
@@ -109,4 +118,8 @@ counted kind.Layout c = record c { layout = more c.layout }
 counted kind.Over c = c
 
 unfoldable pub step_of : ℕ → Replaced → Replaced
-step_of h w = record w { machine = replaced_step w.image (code_of w) h w.machine; counts = counted (kind_of h w) w.counts }
+step_of h w = record w {
+  machine = replaced_step w.image (code_of w) h w.machine;
+  counts = counted (kind_of h w) w.counts;
+  rings = with_transfer h (replaced_transfer w.image (code_of w) h w.machine) w.rings;
+}

@@ -7,7 +7,9 @@ ghost use Rattle.layout.specs.Points.{live_at};
 ghost use Rattle.layout.specs.Rows.{Renders};
 ghost use Rattle.machine.specs.Harts.{is_live, hart_in};
 ghost use Rattle.machine.specs.Steps.{can_step};
-ghost use Rattle.sim_laws.specs.Steps.{replaced_step, stepped, is_layout};
+ghost use Rattle.machine.specs.Transfers.{transfer_with};
+ghost use Rattle.sim_laws.specs.Origins.{origin};
+ghost use Rattle.sim_laws.specs.Steps.{replaced_step, replaced_transfer, stepped, is_layout};
 ghost use Rattle.world.specs.Runs.{is_over};
 ghost use Rattle.world.specs.Worlds.{code_in};
 ghost use Rattle.world.specs.Fetching.{both, word_as, is_address, fetched_as, fetched_of, fetched_at, word_of, is_layout_fetch, led_by};
@@ -119,7 +121,8 @@ fn is_layout_fetch(fetched: Fetched) -> bool
     matches!(fetched, Fetched::Layout)
 }
 
-/// Makes the step of a live hart of a run that goes on, on the word that was fetched for it.
+/// Makes the step of a live hart of a run that goes on, on the word that was fetched for it, and gives the transfer that it made, if it
+/// made one.
 #[inline(always)]
 fn step_live(
     machine: &mut Machine,
@@ -128,10 +131,11 @@ fn step_live(
     lives: &[Layout],
     h: u32,
     word: Option<u32>,
-) -> Result<(), NoMemory>
+) -> Result<Option<(u64, u64)>, NoMemory>
     requires can { can_step h machine.old ≡ true }
     requires word { word ≡ (code_in image.now text.now lives.now).word (hart_in machine.old.harts h).pc }
     ensures ok { OnOk result (machine.new ≡ replaced_step image.now (code_in image.now text.now lives.now) h machine.old) }
+    ensures transfer { IfOk result (λ made. made ≡ transfer_with (code_in image.now text.now lives.now).word (origin (code_in image.now text.now lives.now)) image.now h machine.old) }
     ensures err { OnErr result (machine.new ≡ machine.old) }
 {
     let _ = text;
@@ -139,13 +143,20 @@ fn step_live(
         lives,
         region: image.region(),
     };
-    let Ok(_) = machine.step_fetched(image, &points, h, word) else {
+    let Ok(ran) = machine.step_fetched(image, &points, h, word) else {
         return Err(NoMemory);
     };
-    Ok(())
+    Ok(ran.transfer)
 }
 
-/// Makes the step of hart `h` where it isn't one of layouts alone, and says what it is.
+/// What a step was, and the transfer that it made, if it made one.
+#[derive(Clone, Copy)]
+pub struct Made {
+    pub kind: Stepped,
+    pub transfer: Option<(u64, u64)>,
+}
+
+/// Makes the step of hart `h` where it isn't one of layouts alone, and says what it is and which transfer it made.
 #[inline(always)]
 #[tactic(auto, unfolding(sim_laws::specs::Steps::stepped, sim_laws::specs::Steps::replaced_step, machine::specs::Steps::step_with), using(machine::proofs::HartLists::live_made))]
 pub fn other_step_in(
@@ -154,26 +165,39 @@ pub fn other_step_in(
     text: &TextNow,
     lives: &[Layout],
     h: u32,
-) -> Result<Stepped, NoMemory>
+) -> Result<Made, NoMemory>
     requires { Renders (code_in image.now text.now lives.now) }
-    ensures kind { IfOk result (λ kind. kind ≡ stepped (code_in image.now text.now lives.now) h machine.old) }
+    ensures kind { IfOk result (λ made. made.kind ≡ stepped (code_in image.now text.now lives.now) h machine.old) }
+    ensures transfer { IfOk result (λ made. made.transfer ≡ replaced_transfer image.now (code_in image.now text.now lives.now) h machine.old) }
     ensures step { OnOk result (machine.new ≡ (if is_layout (stepped (code_in image.now text.now lives.now) h machine.old) then machine.old else replaced_step image.now (code_in image.now text.now lives.now) h machine.old)) }
     ensures err { OnErr result (machine.new ≡ machine.old) }
 {
     if machine.outcome().is_some() {
-        return Ok(Stepped::Over);
+        return Ok(Made {
+            kind: Stepped::Over,
+            transfer: None,
+        });
     }
     if !machine.is_live(h) {
-        return Ok(Stepped::Real);
+        return Ok(Made {
+            kind: Stepped::Real,
+            transfer: None,
+        });
     }
     let fetched = fetch(image, text, lives, machine.hart(h).pc);
     if is_layout_fetch(fetched) {
-        return Ok(Stepped::Layout);
+        return Ok(Made {
+            kind: Stepped::Layout,
+            transfer: None,
+        });
     }
-    let Ok(()) = step_live(machine, image, text, lives, h, word_of(fetched)) else {
+    let Ok(transfer) = step_live(machine, image, text, lives, h, word_of(fetched)) else {
         return Err(NoMemory);
     };
-    Ok(Stepped::Real)
+    Ok(Made {
+        kind: Stepped::Real,
+        transfer,
+    })
 }
 
 /// What a step of layouts alone writes to a hart: one register and pc.

@@ -12,6 +12,8 @@ pub struct Counts {
     pub real: u64,
     /// Steps of layouts alone.
     pub layout: u64,
+    /// Snapshots of the last transfers.
+    pub snaps: u64,
     /// Attempts to replace code.
     pub attempts: u64,
     /// Attempts that weren't refused.
@@ -29,15 +31,23 @@ pub fn more(n: u64) -> u64
 
 impl Counts {
     pub fn zero() -> Counts
-        ensures { result ≡ record { real = 0; layout = 0; attempts = 0; done = 0; placed = 0 } }
+        ensures { result ≡ record { real = 0; layout = 0; snaps = 0; attempts = 0; done = 0; placed = 0 } }
     {
         Counts {
             real: 0,
             layout: 0,
+            snaps: 0,
             attempts: 0,
             done: 0,
             placed: 0,
         }
+    }
+
+    /// Counts a snapshot.
+    pub fn snap(&mut self)
+        ensures { self.new ≡ record self.old { snaps = more self.old.snaps } }
+    {
+        self.snaps = more(self.snaps);
     }
 
     /// Counts an attempt.

@@ -2,7 +2,7 @@
 //!
 //! `specs/Worlds.antt` says what it is and keeps, what a step makes of it, and when it stands for a state of the original machine;
 //! `specs/Replacing.antt` what a replacement makes of it, and why one is refused; `specs/Retiring.antt` what a retirement does;
-//! `specs/Runs.antt` what runs are, and which steps of
+//! `specs/Records.antt` what is recorded of a run and what a snapshot is; `specs/Runs.antt` what runs are, and which steps of
 //! the original machine they make.
 #![tactic(auto)]
 
@@ -13,6 +13,7 @@ pub mod laws;
 mod live;
 mod place;
 mod points;
+mod rings;
 mod slots;
 mod told;
 pub mod world;

@@ -1,6 +1,7 @@
 //! The machine whose code is moved, and its step.
 
-ghost use Rattle.std.specs.Prelude.{◌≡◌, ◌≢◌, ◌+◌, ◌^◌, ◌<◌, ◌≤◌, ◌↔◌, if◌then◌else◌, ℕ, [], length, replicate, true, None, IfOk, IfErr, OnOk, OnErr, is_some};
+ghost use Rattle.std.specs.Prelude.{◌≡◌, ◌≢◌, ◌+◌, ◌++◌, ◌^◌, ◌<◌, ◌≤◌, ◌↔◌, if◌then◌else◌, ℕ, List, [], length, replicate, true, false, None, IfOk, IfErr, OnOk, OnErr, is_some};
+ghost use Rattle.branch_ring.specs.Profiles.{IsProfile, all_pairs};
 ghost use Rattle.guest_sys.specs.Calls.{output};
 ghost use Rattle.guest_sys.specs.State.{IsOrderly};
 ghost use Rattle.machine.specs.Harts.{is_live, hart_in};
@@ -10,9 +11,10 @@ ghost use Rattle.machine.specs.Steps.{original_step, original_run};
 ghost use Rattle.plans.specs.Given.{plan_fault};
 ghost use Rattle.sim_laws.specs.Steps.{is_layout, kind_until, original_after};
 ghost use Rattle.world.specs.Worlds.{IsSound, Related, started, code_of, kind_of, step_of, more};
-ghost use Rattle.world.specs.Runs.{until_real, taken_back, real_step_of, real_kind_of, real_steps_of};
+ghost use Rattle.world.specs.Runs.{until_real, taken_back, real_step_of, real_kind_of, real_steps_of, of_real};
 ghost use Rattle.world.specs.Replacing.{Refuses, IsPlacement, IsReplaced, slots_sent, refused_as, RefusedBy, Attempts};
 ghost use Rattle.world.specs.Retiring.{held_by, AreUnreferenced, without, freed, RetiresAs, LeadsToCode};
+ghost use Rattle.world.specs.Records.{Records, SnapsAs, rings_of};
 ghost use Rattle.world.specs.Told.{retired_in, facts_of};
 
 use crate::code::{Before, Led, is_layout, is_over, led_by, other_step_in};
@@ -21,8 +23,10 @@ use crate::giving_up::{give_up, links_held, pcs_of, text_aims};
 use crate::live::{add, aim};
 use crate::place::{Placement, is_no_memory, place};
 use crate::points::live_word;
+use crate::rings::Rings;
 use crate::slots::send;
 use crate::told::{changed_in, hart_facts, layout_facts, slots_in};
+use branch_ring::profile::Profile;
 use image::picture::Image;
 use layout::layout::Layout;
 use machine::machine::Machine;
@@ -50,6 +54,8 @@ pub struct World {
     machine: Machine,
     counts: Counts,
     refusals: Vec<Refused>,
+    rings: Rings,
+    snapshot: Profile,
 }
 
 impl Model for World {
@@ -71,6 +77,8 @@ impl Model for World {
       machine = w.machine;
       counts = w.counts;
       refusals = w.refusals.items;
+      rings = w.rings;
+      snapshot = w.snapshot;
     } };
 
     ghost invariant = { λ w. (w.region.all ≡ w.image.region) × IsSound w.image w.text w.lives.items w.numbers.items w.region.free };
@@ -78,22 +86,24 @@ impl Model for World {
 
 impl World {
     /// The world before its first step, with what the guest will read as its input: no layout is live, all of the region is free,
-    /// and the text is the image's.
-    pub fn start(alloc: Global, image: Image, input: Vec<u8>) -> Result<World, NoMemory>
-        ensures is { IfOk result (λ w. w ≡ started image input.items) }
+    /// and the text is the image's. Of each hart the last `ring` transfers are kept.
+    pub fn start(alloc: Global, image: Image, input: Vec<u8>, ring: u32) -> Result<World, NoMemory>
+        ensures is { IfOk result (λ w. w ≡ started image ring input.items) }
         ensures related { IfOk result (λ w. Related w (start_of image input.items)) }
+        ensures records { IfOk result (λ w. Records ring w (start_of image input.items) []) }
     {
         image.kept();
-        World::make_start(alloc, image, input)
+        World::make_start(alloc, image, input, ring)
     }
 
-    fn make_start(alloc: Global, image: Image, input: Vec<u8>) -> Result<World, NoMemory>
-        ensures { IfOk result (λ w. w ≡ started image input.items) }
+    fn make_start(alloc: Global, image: Image, input: Vec<u8>, ring: u32) -> Result<World, NoMemory>
+        ensures { IfOk result (λ w. w ≡ started image ring input.items) }
     {
         image.kept();
         let text = TextNow::of(alloc, &image)?;
         let region = Region::new(alloc, image.region())?;
         let machine = Machine::start(alloc, &image, input)?;
+        let rings = Rings::start(alloc, ring)?;
         Ok(World {
             alloc,
             image,
@@ -104,6 +114,8 @@ impl World {
             machine,
             counts: Counts::zero(),
             refusals: Vec::new(alloc),
+            rings,
+            snapshot: Profile::empty(alloc),
         })
     }
 
@@ -187,15 +199,16 @@ impl World {
         ensures err { OnErr result (self.new ≡ self.old) }
     {
         self.kept();
-        let Ok(kind) = other_step_in(&mut self.machine, &self.image, &self.text, &self.lives, h)
+        let Ok(made) = other_step_in(&mut self.machine, &self.image, &self.text, &self.lives, h)
         else {
             return Err(NoMemory);
         };
-        if is_layout(kind) {
-            return Ok(kind);
+        if is_layout(made.kind) {
+            return Ok(made.kind);
         }
-        self.counts.count(kind);
-        Ok(kind)
+        self.counts.count(made.kind);
+        self.rings.note(h, made.transfer);
+        Ok(made.kind)
     }
 
     /// The same, out of the loops of steps.
@@ -268,6 +281,7 @@ impl World {
         ensures err { OnErr result (self.new ≡ self.old) }
         ensures over { IfOk result (λ kind. (kind ≡ Stepped.Over) ↔ (is_some self.old.machine.outcome ≡ true)) }
         ensures follows { IfOk result (λ kind. (o : State) → Related self.old o → Related self.new (original_after kind self.old.image h o)) }
+        ensures records { IfOk result (λ kind. (ring : ℕ) (o : State) (hs : List ℕ) → Related self.old (original_run self.old.image hs o) → Records ring self.old o hs → Records ring self.new o (hs ++ of_real kind h)) }
     {
         self.kept();
         let Ok(kind) = self.one_step(h) else {
@@ -339,6 +353,7 @@ impl World {
         ensures one { IfOk result (λ kind. kind ≡ Stepped.Real → self.new.counts.real ≡ more self.old.counts.real) }
         ensures two { self.new.counts.layout ≤ self.old.counts.layout + 2 }
         ensures follows { OnOk result ((o : State) → Related self.old o → Related self.new (original_step self.old.image h o)) }
+        ensures records { IfOk result (λ kind. (ring : ℕ) (o : State) (hs : List ℕ) → Related self.old (original_run self.old.image hs o) → Records ring self.old o hs → Records ring self.new o (hs ++ of_real kind h)) }
     {
         self.kept();
         let Ok(kind) = self.make_real_step(h) else {
@@ -352,6 +367,7 @@ impl World {
         ensures ok { OnOk result (self.new ≡ real_steps_of steps h self.old) }
         ensures err { OnErr result ((n : ℕ) × (n < steps) × (self.new ≡ real_steps_of n h self.old)) }
         ensures follows { OnOk result ((o : State) → Related self.old o → Related self.new (original_run self.old.image (replicate steps h) o)) }
+        ensures records { OnOk result ((ring : ℕ) (o : State) (hs : List ℕ) → Related self.old (original_run self.old.image hs o) → Records ring self.old o hs → Records ring self.new o (hs ++ replicate steps h)) }
     {
         self.kept();
         self.make_run(h, steps)
@@ -471,6 +487,7 @@ impl World {
         requires plan { plan_fault self.old.image plan.now ≡ None }
         ensures is { Attempts plan.now self.old (is_some self.old.machine.outcome) result self.new }
         ensures related { (o : State) → Related self.old o → Related self.new o }
+        ensures records { (ring : ℕ) (o : State) (hs : List ℕ) → Records ring self.old o hs → Records ring self.new o hs }
     {
         let result = self.make_replace(plan);
         self.kept();
@@ -526,8 +543,42 @@ impl World {
         ensures is { RetiresAs self.old (is_some self.old.machine.outcome) result self.new }
         ensures related { (o : State) → Related self.old o → Related self.new o }
         ensures leads { (o : State) → Related self.old o → LeadsToCode (code_of self.new) self.new.machine }
+        ensures records { (ring : ℕ) (o : State) (hs : List ℕ) → Records ring self.old o hs → Records ring self.new o hs }
     {
         self.make_retire()
+    }
+
+    fn make_snap(&mut self) -> Result<(), NoMemory>
+        ensures { SnapsAs self.old (is_some self.old.machine.outcome) result self.new }
+    {
+        if self.outcome().is_some() {
+            return Ok(());
+        }
+        let profile = self.rings.profile(self.alloc)?;
+        self.snapshot = profile;
+        self.counts.snap();
+        Ok(())
+    }
+
+    /// Counts the transfers that are kept, of all harts, and keeps the profile in place of the last one. Out of memory, nothing is
+    /// changed. After the run's end nothing is changed, and the answer is Ok.
+    ///
+    /// Where the rings record the original machine's run, so does the profile: the last transfers of each hart, by original addresses,
+    /// whatever code they were made in.
+    pub fn snap(&mut self) -> Result<(), NoMemory>
+        ensures is { SnapsAs self.old (is_some self.old.machine.outcome) result self.new }
+        ensures related { (o : State) → Related self.old o → Related self.new o }
+        ensures records { (ring : ℕ) (o : State) (hs : List ℕ) → Records ring self.old o hs → Records ring self.new o hs }
+        ensures profile { OnOk result (is_some self.old.machine.outcome ≡ false → (ring : ℕ) (o : State) (hs : List ℕ) → Records ring self.old o hs → IsProfile (all_pairs (rings_of self.old.image ring hs o)) self.new.snapshot) }
+    {
+        self.make_snap()
+    }
+
+    /// The profile of the last snapshot, empty before the first.
+    pub fn snapshot(&self) -> &Profile
+        ensures { result.now ≡ self.now.snapshot }
+    {
+        &self.snapshot
     }
 
     /// The counts, what was refused, and what stands now.
@@ -542,7 +593,7 @@ impl World {
         Ok(Facts {
             real: self.counts.real,
             layout: self.counts.layout,
-            snaps: 0,
+            snaps: self.counts.snaps,
             attempts: self.counts.attempts,
             done: self.counts.done,
             retired: self.retired(),

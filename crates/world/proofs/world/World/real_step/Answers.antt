@@ -1,5 +1,6 @@
 use Rattle.world.proofs.Following.{real_over, never_layout, real_follows}
 use Rattle.world.proofs.Counting.{one_real, two_before, none_before}
+use Rattle.world.proofs.Recording.{real_records}
 use Rattle.world.proofs.world.World.real_step.Goals as goal
 
 pub returns-clause-over : goal.returns-clause-over
@@ -19,3 +20,6 @@ returns-clause-two c = two_before c.args.self.now c.make_real_step.new.self c.ar
 
 pub returns-in_default-clause-two : goal.returns-in_default-clause-two
 returns-in_default-clause-two c = none_before c.args.self.now c.make_real_step.new.self c.in_default.ensures.err
+
+pub returns-clause-records : goal.returns-clause-records
+returns-clause-records c = real_records c.args.self.now c.make_real_step.new.self c.args.h c.in-Ok.kind c.kept.ensures.system c.in-Ok.ensures.kind c.in-Ok.ensures.step
