@@ -1,0 +1,6 @@
+pub mod Joining
+pub mod Once
+pub mod Slotted
+pub mod Taken
+pub mod Ended
+pub mod Started
