@@ -1,6 +1,6 @@
 //! Chains laid one behind another.
 
-ghost use Rattle.std.specs.Prelude.{◌≡◌, ◌<◌, ◌+◌, ◌^◌, ◌++◌, ℕ, All, AllPairs, length, map, get_or, nat_lt, IfSome, IfOk, OnOk, true, if◌then◌else◌};
+ghost use Rattle.std.specs.Prelude.{◌≡◌, ◌<◌, ◌+◌, ◌^◌, ◌++◌, [], ◌∷◌, ℕ, All, AllPairs, length, map, get_or, nat_lt, IfSome, IfOk, OnOk, true, if◌then◌else◌};
 ghost use Rattle.std.specs.List.{flat_map};
 ghost use Rattle.std.specs.List.Sorted.{IsPermutation};
 ghost use Rattle.branch_ring.specs.Profiles.{counted, IsKept};
@@ -104,6 +104,18 @@ fn rank(counts: &[u64], chain: Chain) -> Ranked
     }
 }
 
+/// Adds a chain if it has a block.
+fn push_rank(ranks: &mut Vec<Ranked>, counts: &[u64], chain: Chain) -> Result<(), NoMemory>
+    requires below { All (λ b. b < length counts.now) chain }
+    requires fits { sum_of counts.now chain < 2 ^ 64 }
+    ensures { OnOk result (ranks.new.items ≡ ranks.old.items ++ map (ranked counts.now) (chains_in (chain ∷ []))) }
+{
+    if chain.is_full() {
+        ranks.push(rank(counts, chain))?;
+    }
+    Ok(())
+}
+
 fn rank_all(alloc: Global, counts: &[u64], slots: Vec<Chain>) -> Result<Vec<Ranked>, NoMemory>
     requires below { All (λ c. All (λ b. b < length counts.now) c) slots.items }
     requires fits { All (λ c. sum_of counts.now c < 2 ^ 64) slots.items }
@@ -111,9 +123,7 @@ fn rank_all(alloc: Global, counts: &[u64], slots: Vec<Chain>) -> Result<Vec<Rank
 {
     let mut ranks = Vec::new(alloc);
     for chain in slots {
-        if chain.is_full() {
-            ranks.push(rank(counts, chain))?;
-        }
+        push_rank(&mut ranks, counts, chain)?;
     }
     Ok(ranks)
 }

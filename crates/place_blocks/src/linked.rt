@@ -1,6 +1,6 @@
 //! A chain of blocks.
 
-ghost use Rattle.std.specs.Prelude.{◌≡◌, ◌<◌, ◌++◌, [], ◌∷◌, ℕ, List, true, false, IfOk, OnOk, MatchOption, length, slice_index};
+ghost use Rattle.std.specs.Prelude.{◌≡◌, ◌<◌, ◌-◌, ◌++◌, [], ◌∷◌, ℕ, List, true, false, IfOk, OnOk, MatchOption, length, slice_index};
 ghost use Rattle.place_blocks.specs.Chains.{ends};
 ghost use Rattle.place_blocks.specs.Slots.{is_full};
 
@@ -31,6 +31,18 @@ fn append(first: VecDeque<u32>, second: VecDeque<u32>) -> Result<VecDeque<u32>, 
     Ok(all)
 }
 
+/// Moves the last block of the first to the front of the second.
+fn move_one(first: &mut VecDeque<u32>, second: &mut VecDeque<u32>) -> Result<(), NoMemory>
+    ensures same { OnOk result (first.new.items ++ second.new.items ≡ first.old.items ++ second.old.items) }
+    ensures len { OnOk result (length first.new.items ≡ length first.old.items - 1) }
+{
+    let Some(block) = first.pop_back() else {
+        return Ok(());
+    };
+    second.push_front(block)?;
+    Ok(())
+}
+
 /// Moves the blocks of the first to the front of the second.
 fn prepend(first: VecDeque<u32>, second: VecDeque<u32>) -> Result<VecDeque<u32>, NoMemory>
     ensures { IfOk result (λ all. all.items ≡ first.items ++ second.items) }
@@ -38,10 +50,7 @@ fn prepend(first: VecDeque<u32>, second: VecDeque<u32>) -> Result<VecDeque<u32>,
     let mut rest = first;
     let mut all = second;
     for _ in 0..rest.len() {
-        let Some(block) = rest.pop_back() else {
-            return Ok(all);
-        };
-        all.push_front(block)?;
+        move_one(&mut rest, &mut all)?;
     }
     Ok(all)
 }
@@ -97,17 +106,21 @@ impl Chain {
     pub fn last(&self) -> Option<u32>
         ensures { MatchOption result (is_full self.now ≡ false) (λ a. ends a self.now ≡ true) }
     {
-        let last = self.blocks.back()?;
-        Some(*last)
+        let count = self.len();
+        if count == 0 {
+            return None;
+        }
+        Some(self.at(count - 1))
     }
 
     pub fn ends(&self, block: u32) -> bool
         ensures { result ≡ ends block self.now }
     {
-        match self.blocks.back() {
-            Some(last) => *last == block,
-            None => false,
+        let count = self.len();
+        if count == 0 {
+            return false;
         }
+        self.at(count - 1) == block
     }
 
     /// Adds the blocks of another chain at the end. Those of the shorter one move.

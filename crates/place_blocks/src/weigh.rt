@@ -1,11 +1,11 @@
 //! The edges of a function's blocks, by the weights that a profile gives them.
 
-ghost use Rattle.std.specs.Prelude.{◌≡◌, ◌<◌, ◌+◌, ◌*◌, ◌^◌, ◌&&◌, ◌↔◌, ℕ, AllPairs, length, map, filter, nat_lt, IfSome, IfOk, OnOk, if◌then◌else◌};
+ghost use Rattle.std.specs.Prelude.{◌++◌, [], ◌∷◌, slice_get, is_some, ◌≡◌, ◌<◌, ◌+◌, ◌*◌, ◌^◌, ◌&&◌, ◌↔◌, ℕ, AllPairs, length, map, filter, nat_lt, IfSome, IfOk, OnOk, if◌then◌else◌};
 ghost use Rattle.std.specs.BTreeMap.{IsOrdered};
 ghost use Rattle.std.specs.List.Sorted.{IsPermutation};
 ghost use Rattle.branch_ring.specs.Profiles.{counted, IsKept};
 ghost use Rattle.place_blocks.specs.Chains.{Precedes};
-ghost use Rattle.place_blocks.specs.Edges.{Edge, falls_along, weight};
+ghost use Rattle.place_blocks.specs.Edges.{Edge, falls, falls_along, weight};
 ghost use Rattle.place_blocks.specs.Gains.{edge_cmp, is_edge, weight_at, gain, entry_of, MayPrecede};
 ghost use Rattle.place_blocks.specs.Inputs.{AreBlocks};
 ghost use Rattle.place_blocks.specs.Passes.{edge_of};
@@ -50,7 +50,19 @@ fn add_transfer(
     let Some(to) = entered else {
         return Ok(());
     };
-    add(weights, (from, to), count)
+    add(weights, (from, to), count)?;
+    Ok(())
+}
+
+/// Whether a block falls into the next one.
+fn falls_on(blocks: &[Block], from: u32) -> bool
+    requires { from < length blocks.now }
+    ensures { result ≡ (falls (slice_get blocks.now from) && is_some (slice_get blocks.now (from + 1))) }
+{
+    match blocks.get(from as usize) {
+        Some(block) => block.falls && blocks.get(from as usize + 1).is_some(),
+        None => false,
+    }
 }
 
 /// Adds to the edge from the block that was entered to the next one, if it falls into that.
@@ -68,14 +80,11 @@ fn add_fall(
     let Some(from) = entered else {
         return Ok(());
     };
-    if !blocks[from as usize].falls {
+    if !falls_on(blocks, from) {
         return Ok(());
     }
-    let next = from + 1;
-    if next as usize == blocks.len() {
-        return Ok(());
-    }
-    add(weights, (from, next), count)
+    add(weights, (from, from + 1), count)?;
+    Ok(())
 }
 
 /// Adds what a pair of a profile says.
@@ -92,7 +101,8 @@ fn add_pair(
 {
     let entered = starter(blocks, to);
     add_transfer(weights, holder(blocks, from), entered, count)?;
-    add_fall(weights, blocks, entered, count)
+    add_fall(weights, blocks, entered, count)?;
+    Ok(())
 }
 
 fn weights_of(
@@ -111,20 +121,32 @@ fn weights_of(
     Ok(weights)
 }
 
+/// Adds an edge if it has a weight.
+fn push_heavy(
+    edges: &mut Vec<WeighedEdge>,
+    edge: (u32, u32),
+    weight: u64,
+) -> Result<(), NoMemory>
+    ensures { OnOk result (map entry_of edges.new.items ≡ map entry_of edges.old.items ++ filter (λ e. nat_lt 0 e.1) ((edge, weight) ∷ [])) }
+{
+    if weight > 0 {
+        edges.push(WeighedEdge {
+            from: edge.0,
+            to: edge.1,
+            weight,
+        })?;
+    }
+    Ok(())
+}
+
 /// The edges with a weight, ascending.
 fn listed(alloc: Global, weights: &Weights) -> Result<Vec<WeighedEdge>, NoMemory>
     ensures entries { IfOk result (λ v. map entry_of v.items ≡ filter (λ e. nat_lt 0 e.1) weights.now.entries) }
-    ensures ordered { IsOrdered edge_cmp weights.now }
+    ensures ordered { IfOk result (λ _. IsOrdered edge_cmp weights.now) }
 {
     let mut edges = Vec::with_capacity(alloc, weights.len())?;
     for (edge, weight) in weights {
-        if *weight > 0 {
-            edges.push(WeighedEdge {
-                from: edge.0,
-                to: edge.1,
-                weight: *weight,
-            })?;
-        }
+        push_heavy(&mut edges, *edge, *weight)?;
     }
     Ok(edges)
 }

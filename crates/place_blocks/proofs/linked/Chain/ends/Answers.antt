@@ -1,7 +1,6 @@
-use Rattle.std.proofs.Common.{◌∙◌, sym, ap}
-use Rattle.place_blocks.specs.Chains.{ends}
+use Rattle.std.proofs.Common.{◌∙◌, ◌-◌, get_or, length, ap, sym, arith}
 use Rattle.place_blocks.proofs.Ended.{ends_last}
 use Rattle.place_blocks.proofs.linked.Chain.ends.Goals as goal
 
-pub returns-in-Some : goal.returns-in-Some
-returns-in-Some c = ends_last c.args.block c.in-Some.last.now c.as_slice.result.now c.in-Some.ensures.item.3.0 (sym (c.in-Some.ensures.item.3.1 0)) ∙ ap (ends c.args.block) c.as_slice.ensures
+pub returns : goal.returns
+returns c = ends_last c.args.block c.at.result c.args.self.now (omega (arith, c.len-count.ensures, c.if-count-eq0.false)) (sym (c.at.ensures ∙ ap (λ n. get_or c.args.self.now (n - 1) 0) c.len-count.ensures))

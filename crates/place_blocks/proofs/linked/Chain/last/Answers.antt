@@ -1,7 +1,6 @@
-use Rattle.std.proofs.Common.{◌∙◌, sym, ap}
-use Rattle.place_blocks.specs.Chains.{ends}
+use Rattle.std.proofs.Common.{◌∙◌, ◌-◌, get_or, length, ap, sym, arith}
 use Rattle.place_blocks.proofs.Ended.{ends_itself}
 use Rattle.place_blocks.proofs.linked.Chain.last.Goals as goal
 
 pub returns : goal.returns
-returns c = sym (ap (ends c.in_ok-last.last.now) c.as_slice.ensures) ∙ ends_itself c.in_ok-last.last.now c.as_slice.result.now c.in_ok-last.ensures.item.3.0 (sym (c.in_ok-last.ensures.item.3.1 0))
+returns c = ends_itself c.at.result c.args.self.now (omega (arith, c.len-count.ensures, c.if-count-eq0.false)) (sym (c.at.ensures ∙ ap (λ n. get_or c.args.self.now (n - 1) 0) c.len-count.ensures))
