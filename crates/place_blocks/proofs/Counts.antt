@@ -1,9 +1,8 @@
 -- How often each block stands in chains.
 use Rattle.std.proofs.Common.{◌≡◌, ℕ, zero, suc, ◌+◌, ◌<◌, ◌≤◌, ◌==◌, Bool, true, false, cond, List, [], ◌∷◌, ◌++◌, map, length, get_or, take, min, inl, inr, refl, sym, ◌∙◌, subst, ap, ap₂, arith}
-use Rattle.std.specs.Prelude.{◌||◌, ◌⊎◌, slice_set, nat_lt, sum_by}
-use Rattle.std.specs.List.{list_any, flat_map, range_with_len}
-use Rattle.std.specs.List.Sorted.{IsPermutation}
-use Rattle.std.proofs.lemmas.Bool.{eq-eqb, ne_eqb, eqb-true, cases_eq, cases_lt, lt-ltb, le-ltb}
+use Rattle.std.specs.Prelude.{◌||◌, ◌⊎◌, slice_set, nat_lt}
+use Rattle.std.specs.List.{range_with_len}
+use Rattle.std.proofs.lemmas.Bool.{eq-eqb, ne_eqb, cases_eq, cases_lt, lt-ltb, le-ltb}
 use Rattle.std.proofs.lemmas.List.{get_or-set_other, take_more}
 use Rattle.std.proofs.lemmas.List.Sums.{sum_by-cons, sum_by-append, sum_by-set}
 use Rattle.place_blocks.specs.Orders.{least, is_first, single, singles}
@@ -56,9 +55,9 @@ single_times b c = let a = times_cons b c [] in omega (arith, a)
 -- at first each block stands once
 range_times : (b a n : ℕ) → times_in b (map single (range_with_len a n)) ≡ pick (nat_lt b (a + n)) (pick (nat_lt b a) 0 1) 0
 range_times b a zero = elim (cases_lt b a) [
-    | inl lt ↦ sym (within (nat_lt b (a + zero)) (lt-ltb b a lt))
-    | inr ge ↦ sym (ap (λ (x : Bool). pick x (pick (nat_lt b a) 0 1) 0) (le-ltb b (a + zero) (omega (arith, ge))))
-  ]
+  | inl lt ↦ sym (within (nat_lt b (a + zero)) (lt-ltb b a lt))
+  | inr ge ↦ sym (ap (λ (x : Bool). pick x (pick (nat_lt b a) 0 1) 0) (le-ltb b (a + zero) (omega (arith, ge))))
+]
   where
     within : (x : Bool) → nat_lt b a ≡ true → pick x (pick (nat_lt b a) 0 1) 0 ≡ 0
     within true e = ap (λ (y : Bool). pick y 0 1) e
@@ -169,14 +168,6 @@ pub least_more : (chain : List ℕ) (b : ℕ) → is_full chain ≡ true → lea
 least_more [] b e = absurd cc
 least_more (c ∷ []) b e = refl
 least_more (c ∷ d ∷ chain) b e = let h = least_more (d ∷ chain) b refl in omega (arith, h)
-
-pub flat_times : {X : Type 0} (f : X → List ℕ) (b : ℕ) (xs : List X) → times b (flat_map f xs) ≡ sum_by (λ x. times b (f x)) xs
-flat_times f b [] = refl
-flat_times f b (x ∷ xs) =
-    let a = times_append b (f x) (flat_map f xs) in
-    let c = sum_by-cons (λ x. times b (f x)) x xs in
-    let e = flat_times f b xs in
-    omega (arith, a, c, e)
 
 -- one more of a chain's blocks
 pub least_step : (chain : List ℕ) (i : ℕ) → 1 ≤ i → i < length chain → least (take (i + 1) chain) ≡ min (least (take i chain)) (get_or chain i 0)

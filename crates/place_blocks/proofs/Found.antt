@@ -2,7 +2,7 @@
 use Rattle.std.proofs.Common.{◌≡◌, ℕ, zero, suc, ◌+◌, ◌-◌, ◌<◌, ◌≤◌, ◌==◌, Bool, true, false, List, [], ◌∷◌, length, get_or, Option, Some, None, is_some, inl, inr, refl, sym, ◌∙◌, ap, ap₂, arith}
 use Rattle.std.specs.Prelude.{◌&&◌, nat_le, nat_lt, slice_get}
 use Rattle.std.specs.List.{AllWithin}
-use Rattle.std.proofs.lemmas.Bool.{and_parts, eq-eqb, ne_eqb, eqb-true, cases_eq, cases_lt, cases_order, lt-ltb, le-ltb, lt-leb, le-leb, ltb-true, leb-true}
+use Rattle.std.proofs.lemmas.Bool.{and_parts, eq-eqb, ne_eqb, cases_eq, cases_order, lt-ltb, le-ltb, lt-leb, le-leb, ltb-true, leb-true}
 use Rattle.blocks.specs.declared.run.Block.{Block}
 use Rattle.place_blocks.specs.Edges.{holds, starts, falls, falls_along}
 use Rattle.place_blocks.specs.Gains.{is_edge}

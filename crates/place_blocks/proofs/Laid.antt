@@ -1,24 +1,24 @@
 -- Chains in the order of their ranks are laid as the rule says.
-use Rattle.std.proofs.Common.{◌≡◌, ℕ, zero, suc, ◌+◌, ◌^◌, ◌<◌, ◌≤◌, ◌==◌, Bool, true, false, cond, List, [], ◌∷◌, ◌++◌, map, length, get_or, inl, inr, refl, sym, ◌∙◌, subst, ap, ap₂, arith}
-use Rattle.std.specs.Prelude.{◌||◌, ◌⊎◌, filter, nat_lt, slice_get, sum_by}
+use Rattle.std.proofs.Common.{◌≡◌, ℕ, suc, ◌^◌, ◌<◌, ◌≤◌, ◌==◌, Bool, true, false, List, [], ◌∷◌, ◌++◌, map, length, get_or, inl, inr, refl, sym, ◌∙◌, subst, ap, arith}
+use Rattle.std.specs.Prelude.{◌||◌, nat_lt, sum_by}
 use Rattle.std.specs.List.{All, AllPairs, AllByRecursion, IsDistinct, list_any, flat_map}
 use Rattle.std.specs.List.Sorted.{IsPermutation}
 use Rattle.std.specs.Cmp.{nat_eq_equiv}
-use Rattle.std.proofs.lemmas.Bool.{eq-eqb, ne_eqb, eqb-true, cases_eq, cases_lt, ltb-true, lt-ltb, le-ltb}
-use Rattle.std.proofs.lemmas.List.Sorted.{IsPermutation-map, All-permutation, sum_by-IsPermutation}
+use Rattle.std.proofs.lemmas.Bool.{eq-eqb, ne_eqb, cases_lt, le-ltb}
+use Rattle.std.proofs.lemmas.List.Sorted.{IsPermutation-map, All-permutation}
 use Rattle.std.proofs.lemmas.List.Sums.{sum_by-cons}
 use Rattle.std.proofs.lemmas.Map.Keys.{IsDistinct-IsPermutation}
 use Rattle.blocks.specs.declared.run.Block.{Block}
 use Rattle.branch_ring.specs.declared.counted.Counted.{Counted}
 use Rattle.branch_ring.specs.Profiles.{count_of as count}
 use Rattle.place_blocks.specs.declared.lay.Ranked.{Ranked}
-use Rattle.place_blocks.specs.Edges.{holds, leaves, count_of}
+use Rattle.place_blocks.specs.Edges.{leaves, count_of}
 use Rattle.place_blocks.specs.Inputs.{AreBlocks}
 use Rattle.place_blocks.specs.Orders.{least, is_first, heat, Goes, IsLaid}
 use Rattle.place_blocks.specs.Places.{times, times_in}
 use Rattle.place_blocks.specs.Ranks.{sum_of, ranked, chain_of, MayPrecede}
 use Rattle.place_blocks.specs.Slots.{is_full, chains_in}
-use Rattle.place_blocks.proofs.Counts.{pick, is, is_here, times_cons, times_in_cons, times_kept, stands, least_in, first_is, flat_times}
+use Rattle.place_blocks.proofs.Counts.{pick, is, is_here, times_cons, times_in_cons, times_kept, stands, least_in, first_is}
 use Rattle.place_blocks.proofs.Found.{one_holder}
 use Rattle.place_blocks.proofs.Rises.{rises_from, rises_map, by_recursion, by_place}
 use Rattle.place_blocks.proofs.Weighing.{count_either, count_no, count_small}
@@ -99,11 +99,11 @@ module _ (n : ℕ) (chains : List (List ℕ)) (each : (b : ℕ) → times_in b c
   below [] part = tt
   below (c ∷ cs) part = (
     λ i d lt.
-    let s = stands (get_or c i d) c i d lt refl in
-    let t = times_in_cons (get_or c i d) c cs in
-    let p = part (get_or c i d) in
-    let e = each (get_or c i d) in
-    bound (get_or c i d) n (omega (arith, s, t, p, e)),
+        let s = stands (get_or c i d) c i d lt refl in
+        let t = times_in_cons (get_or c i d) c cs in
+        let p = part (get_or c i d) in
+        let e = each (get_or c i d) in
+        bound (get_or c i d) n (omega (arith, s, t, p, e)),
     below cs (λ b. let t = times_in_cons b c cs in let p = part b in omega (arith, t, p)),
   )
 
@@ -226,16 +226,3 @@ module _ (blocks : List Block) (profile : List Counted) (are : AreBlocks blocks)
         (rises_from MayPrecede (λ r s. Goes (heat blocks profile) r.chain s.chain) Known (λ r s. r.least == s.least) up sorted all_known up_to distinct);
     is = is ∙ flat_is sorted;
   }
-
-  chain_times : (b : ℕ) (rs : List Ranked) → sum_by (λ (r : Ranked). times b r.chain) rs ≡ times_in b (map chain_of rs)
-  chain_times b [] = refl
-  chain_times b (r ∷ rs) =
-      let a = sum_by-cons (λ (r : Ranked). times b r.chain) r rs in
-      let c = times_in_cons b r.chain (map chain_of rs) in
-      let e = chain_times b rs in
-      omega (arith, a, c, e)
-
-  pub order_times : (order : List ℕ) → order ≡ flat_map chain_of sorted → (b : ℕ) → times b order ≡ times_in b slots
-  order_times order is b =
-      ap (times b) is ∙ flat_times chain_of b sorted ∙ sum_by-IsPermutation (λ (r : Ranked). times b r.chain) ranks sorted same
-      ∙ chain_times b ranks ∙ ap (times_in b) ranks_chains ∙ times_kept b slots

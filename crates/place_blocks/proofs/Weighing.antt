@@ -1,6 +1,6 @@
 -- Weights are counted pair by pair.
-use Rattle.std.proofs.Common.{◌≡◌, ℕ, zero, suc, ◌+◌, ◌*◌, ◌^◌, ◌<◌, ◌≤◌, Bool, true, false, cond, List, [], ◌∷◌, map, drop, length, get_or, Option, refl, sym, ◌∙◌, subst, ap, ap₂, arith}
-use Rattle.std.specs.Prelude.{◌&&◌, ◌||◌, slice_get, sum_by, filter}
+use Rattle.std.proofs.Common.{◌≡◌, ℕ, ◌+◌, ◌*◌, ◌^◌, ◌<◌, ◌≤◌, Bool, true, false, cond, List, [], ◌∷◌, map, drop, length, get_or, Option, refl, ap, ap₂, arith}
+use Rattle.std.specs.Prelude.{◌&&◌, ◌||◌, slice_get, sum_by}
 use Rattle.std.proofs.lemmas.List.{at_drop_more}
 use Rattle.std.proofs.lemmas.List.Sums.{sum_by-cons, sum_by-le-sum_by, get_or-le-sum_by}
 use Rattle.std.proofs.Math.ListN.{get_or-map}

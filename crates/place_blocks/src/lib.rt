@@ -4,8 +4,8 @@
 pub mod chain;
 mod edge;
 mod find;
-mod lay;
 pub mod laws;
+mod lay;
 mod linked;
 mod slots;
 mod weigh;

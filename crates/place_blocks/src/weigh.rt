@@ -122,11 +122,7 @@ fn weights_of(
 }
 
 /// Adds an edge if it has a weight.
-fn push_heavy(
-    edges: &mut Vec<WeighedEdge>,
-    edge: (u32, u32),
-    weight: u64,
-) -> Result<(), NoMemory>
+fn push_heavy(edges: &mut Vec<WeighedEdge>, edge: (u32, u32), weight: u64) -> Result<(), NoMemory>
     ensures { OnOk result (map entry_of edges.new.items ≡ map entry_of edges.old.items ++ filter (λ e. nat_lt 0 e.1) ((edge, weight) ∷ [])) }
 {
     if weight > 0 {

@@ -1,5 +1,4 @@
-use Rattle.std.proofs.Common.{◌≡◌, ◌<◌, ◌∙◌, ℕ, List, map, length, get_or, sym, ap, subst, arith}
-use Rattle.blocks.specs.declared.run.Block.{Block}
+use Rattle.std.proofs.Common.{◌<◌, ◌∙◌, List, map, length, sym, subst}
 use Rattle.branch_ring.specs.Profiles.{counted}
 use Rattle.std.specs.Prelude.{◌↔◌}
 use Rattle.place_blocks.specs.declared.edge.WeighedEdge.{WeighedEdge}

@@ -1,4 +1,4 @@
-use Rattle.std.proofs.Common.{◌≡◌, ◌≤◌, length, take}
+use Rattle.std.proofs.Common.{◌≡◌, ◌≤◌, take}
 use Rattle.place_blocks.specs.Orders.{least}
 use Rattle.place_blocks.proofs.lay.least_of.Given as goal
 

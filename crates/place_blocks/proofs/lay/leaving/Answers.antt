@@ -1,4 +1,4 @@
-use Rattle.std.proofs.Common.{◌≡◌, ◌+◌, ◌<◌, ◌∙◌, cond, ℕ, Bool, List, [], map, drop, length, get_or, sym, subst, ap, arith}
+use Rattle.std.proofs.Common.{◌+◌, ◌<◌, ◌∙◌, cond, ℕ, Bool, List, map, get_or, sym, subst, ap, arith}
 use Rattle.std.specs.Prelude.{IfSome}
 use Rattle.std.proofs.lemmas.List.{at_drop_all}
 use Rattle.branch_ring.specs.Profiles.{counted}

@@ -1,4 +1,4 @@
-use Rattle.std.proofs.Common.{◌≡◌, ◌<◌, ◌^◌, ◌∙◌, ℕ, List, [], ◌∷◌, ◌++◌, map, length, sym, ap, subst, arith}
+use Rattle.std.proofs.Common.{◌≡◌, ◌<◌, ◌^◌, ◌∙◌, ℕ, List, ◌∷◌, ◌++◌, map, length, sym, ap, subst}
 use Rattle.std.specs.List.{All}
 use Rattle.place_blocks.specs.Ranks.{ranked, sum_of}
 use Rattle.place_blocks.specs.Slots.{chains_in}

@@ -1,4 +1,4 @@
-use Rattle.std.proofs.Common.{◌∙◌, ap, sym, arith}
+use Rattle.std.proofs.Common.{arith}
 use Rattle.std.specs.Prelude.{◌&&◌}
 use Rattle.place_blocks.specs.Places.{is_at}
 use Rattle.place_blocks.proofs.Weighing.{at_most, gains_are}

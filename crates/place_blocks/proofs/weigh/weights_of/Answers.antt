@@ -1,4 +1,4 @@
-use Rattle.std.proofs.Common.{◌≡◌, ◌+◌, ◌∙◌, ℕ, List, [], map, drop, length, sym, ap, arith}
+use Rattle.std.proofs.Common.{ℕ, List, map, ap, arith}
 use Rattle.std.proofs.lemmas.List.{drop_all}
 use Rattle.branch_ring.specs.Profiles.{counted}
 use Rattle.place_blocks.specs.Edges.{weight}

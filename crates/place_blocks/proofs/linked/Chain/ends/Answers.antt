@@ -1,4 +1,4 @@
-use Rattle.std.proofs.Common.{◌∙◌, ◌-◌, get_or, length, ap, sym, arith}
+use Rattle.std.proofs.Common.{◌∙◌, ◌-◌, get_or, ap, sym, arith}
 use Rattle.place_blocks.proofs.Ended.{ends_last}
 use Rattle.place_blocks.proofs.linked.Chain.ends.Goals as goal
 

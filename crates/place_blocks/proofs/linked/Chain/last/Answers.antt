@@ -1,4 +1,4 @@
-use Rattle.std.proofs.Common.{◌∙◌, ◌-◌, get_or, length, ap, sym, arith}
+use Rattle.std.proofs.Common.{◌∙◌, ◌-◌, get_or, ap, sym, arith}
 use Rattle.place_blocks.proofs.Ended.{ends_itself}
 use Rattle.place_blocks.proofs.linked.Chain.last.Goals as goal
 
