@@ -1,6 +1,6 @@
 -- Functions that stand alone are under way.
-use Rattle.std.proofs.Common.{◌≡◌, ℕ, zero, suc, ◌+◌, ◌<◌, ◌≤◌, Bool, true, false, not, List, [], ◌∷◌, map, ◌⊎◌, inl, inr, refl, sym, ap, subst, ◌∙◌, arith}
-use Rattle.std.specs.Prelude.{◌==◌, ◌&&◌, ◌≢◌, Contains, Option, Some, None}
+use Rattle.std.proofs.Common.{◌≡◌, ℕ, zero, suc, Bool, true, false, not, List, [], map, inl, inr, refl, sym, ap, subst, ◌∙◌, arith}
+use Rattle.std.specs.Prelude.{◌==◌, ◌&&◌, ◌≢◌, Contains, Option, Some}
 use Rattle.std.specs.List.{sum_by}
 use Rattle.std.specs.List.Sorted.{IsPermutation}
 use Rattle.std.proofs.lemmas.Bool.{and_parts}
@@ -10,11 +10,11 @@ use Rattle.branch_ring.specs.declared.counted.Counted.{Counted}
 use Rattle.place_funcs.specs.declared.link.Link.{Link}
 use Rattle.place_funcs.specs.Edges.{edge}
 use Rattle.place_funcs.specs.Groups.{name, alone, between, edge_of, Leads}
-use Rattle.place_funcs.specs.Links.{lone, top_of, AreLone, IsLink, Tells}
+use Rattle.place_funcs.specs.Links.{lone, top_of, AreLone, Tells}
 use Rattle.place_funcs.specs.Rows.{is_of, share_of, IsGiven}
 use Rattle.place_funcs.proofs.Members.{in_head, in_none, split_at, from_map, to_map}
 use Rattle.place_funcs.proofs.LinkLaws.{alike, differ}
-use Rattle.place_funcs.proofs.Standing.{rise_alone, flat, flat_alone}
+use Rattle.place_funcs.proofs.Standing.{rise_alone, flat_alone}
 use Rattle.place_funcs.proofs.Totals.{of_in, in_of, total_edge, total_none}
 use Rattle.place_funcs.proofs.UnderWay.{IsUnderWay}
 

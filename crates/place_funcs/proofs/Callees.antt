@@ -1,5 +1,5 @@
 -- The function that starts at an address, among those that are chosen.
-use Rattle.std.proofs.Common.{◌≡◌, ℕ, zero, suc, ◌+◌, ◌<◌, ◌≤◌, Bool, true, false, not, List, [], ◌∷◌, length, get_or, ◌⊎◌, inl, inr, refl, sym, ap, subst, ◌∙◌, arith}
+use Rattle.std.proofs.Common.{◌≡◌, ℕ, zero, suc, ◌<◌, ◌≤◌, Bool, true, false, not, List, [], ◌∷◌, length, get_or, ◌⊎◌, inl, inr, refl, sym, ap, subst, ◌∙◌, arith}
 use Rattle.std.specs.Prelude.{◌==◌, ◌&&◌, AllPairs, Contains, slice_get, position, nat_lt, cond, IfSome, ◌≢◌, Option, Some, None, Result, Ok, Err, is_ok, MatchResult}
 use Rattle.std.specs.List.{position_or_len}
 use Rattle.std.specs.Ordering.{nat_cmp}
@@ -13,7 +13,6 @@ use Rattle.image.specs.declared.ranges.Func.{Func}
 use Rattle.image.specs.Aims.{func_start, func_from}
 use Rattle.place_funcs.specs.Edges.{is_start}
 use Rattle.place_funcs.specs.Rows.{is_of, is_it, is_callee}
-use Rattle.place_funcs.proofs.Members.{in_head, in_tail, in_none, split_at}
 use Rattle.place_funcs.proofs.LinkLaws.{differ, alike, same_true}
 use Rattle.place_funcs.proofs.Raised.{and_false}
 use Rattle.place_funcs.proofs.Totals.{of_in, in_of}

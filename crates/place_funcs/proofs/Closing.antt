@@ -1,11 +1,10 @@
 -- From the groups in a map to the order of the functions.
-use Rattle.std.proofs.Common.{◌≡◌, ℕ, zero, suc, ◌+◌, ◌<◌, ◌≤◌, ◌^◌, Bool, true, false, List, [], ◌∷◌, ◌++◌, length, map, refl, sym, ap, subst, ◌∙◌, ◌⊎◌, inl, inr, arith}
+use Rattle.std.proofs.Common.{◌≡◌, ℕ, suc, ◌<◌, ◌≤◌, ◌^◌, Bool, true, false, List, [], ◌∷◌, ◌++◌, length, map, sym, ap, subst, ◌∙◌, arith}
 use Rattle.std.specs.Prelude.{Contains, All, AllPairs, IsSome, if◌then◌else◌}
 use Rattle.std.specs.Ordering.{nat_cmp}
 use Rattle.std.specs.BTreeMap.{is_at}
 use Rattle.std.specs.Map.{lookup}
-use Rattle.std.specs.List.{flat_map, sum_by}
-use Rattle.std.specs.List.Sorted.{IsPermutation}
+use Rattle.std.specs.List.{flat_map}
 use Rattle.std.proofs.lemmas.List.Kept.{AllPairs-cons}
 use Rattle.std.proofs.lemmas.List.Elements.{All-nil, All-cons, All-head, All-tail}
 use Rattle.std.proofs.lemmas.List.Concat.{flat_map-cons}
@@ -20,9 +19,9 @@ use Rattle.place_funcs.specs.Edges.{edge, count, count_from, is_held}
 use Rattle.place_funcs.specs.Groups.{name, IsClosest}
 use Rattle.place_funcs.specs.Grouping.{named, ranks, group_of, IsGrouped}
 use Rattle.place_funcs.specs.Rows.{IsGiven}
-use Rattle.place_funcs.proofs.Members.{in_head, in_tail, in_none, split_at, from_map}
+use Rattle.place_funcs.proofs.Members.{in_head, in_tail}
 use Rattle.place_funcs.proofs.Standing.{Above, Rise}
-use Rattle.place_funcs.proofs.Ranked.{IsLast, last_is}
+use Rattle.place_funcs.proofs.Ranked.{last_is}
 
 all_above : (k : ℕ) (gs : List (List ℕ)) → ((c : List ℕ) → Contains gs c → k < name c) → Above k gs
 all_above k [] h = tt

@@ -1,6 +1,6 @@
 -- The edges of functions that stand alone, pair by pair.
-use Rattle.std.proofs.Common.{◌≡◌, ℕ, zero, suc, ◌+◌, ◌<◌, ◌≤◌, ◌^◌, Bool, true, false, not, List, [], ◌∷◌, ◌⊎◌, inl, inr, refl, sym, ap, subst, ◌∙◌, arith}
-use Rattle.std.specs.Prelude.{◌==◌, ◌&&◌, ◌||◌, if◌then◌else◌, ◌≢◌, AllPairs, Contains, length, slice_get, Option, Some, None}
+use Rattle.std.proofs.Common.{◌≡◌, ℕ, zero, suc, ◌+◌, ◌<◌, ◌≤◌, ◌^◌, Bool, true, false, not, List, refl, sym, ap, subst, ◌∙◌, arith}
+use Rattle.std.specs.Prelude.{◌==◌, ◌&&◌, if◌then◌else◌, slice_get, Option, Some}
 use Rattle.std.proofs.lemmas.Bool.{and_parts}
 use Rattle.image.specs.declared.ranges.Func.{Func}
 use Rattle.branch_ring.specs.declared.counted.Counted.{Counted}
@@ -9,8 +9,8 @@ use Rattle.place_funcs.specs.Links.{lone, top_of, AreLone}
 use Rattle.std.specs.Prelude.{All}
 use Rattle.std.proofs.lemmas.List.Elements.{All-filter}
 use Rattle.place_funcs.specs.Edges.{is_in}
-use Rattle.place_funcs.specs.Rows.{is_callee, is_it, leaving, share}
-use Rattle.place_funcs.proofs.LinkLaws.{differ, alike, same_true}
+use Rattle.place_funcs.specs.Rows.{is_callee, leaving, share}
+use Rattle.place_funcs.proofs.LinkLaws.{alike, same_true}
 
 lone_is : (x y n : ℕ) → 0 < n → lone x y n ≡ Some (record { weight = n; top = n; f = x; g = y })
 lone_is x y zero h = absurd (omega (arith, h))

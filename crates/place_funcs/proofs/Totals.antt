@@ -1,12 +1,12 @@
 -- The pairs of a profile, one by one, make the edges.
-use Rattle.std.proofs.Common.{◌≡◌, ℕ, zero, suc, ◌+◌, ◌<◌, ◌≤◌, ◌^◌, ◌-◌, Bool, true, false, not, List, [], ◌∷◌, length, map, get_or, ◌⊎◌, inl, inr, refl, sym, ap, subst, ◌∙◌, arith}
-use Rattle.std.specs.Prelude.{◌==◌, ◌&&◌, ◌||◌, ◌≢◌, if◌then◌else◌, All, AllPairs, Contains, slice_get, Option, Some, None}
-use Rattle.std.specs.List.{filter, list_any, sum_by}
+use Rattle.std.proofs.Common.{◌≡◌, ℕ, ◌+◌, ◌<◌, ◌≤◌, ◌^◌, ◌-◌, Bool, true, false, not, List, [], ◌∷◌, length, ◌⊎◌, inl, inr, refl, sym, ap, subst, ◌∙◌, arith}
+use Rattle.std.specs.Prelude.{◌==◌, ◌&&◌, ◌||◌, if◌then◌else◌, AllPairs, Contains, slice_get}
+use Rattle.std.specs.List.{filter, sum_by}
 use Rattle.std.proofs.lemmas.Bool.{and_parts}
 use Rattle.std.proofs.lemmas.List.Sums.{sum_by-cons, sum_by-le-sum_by}
 use Rattle.image.specs.declared.ranges.Func.{Func}
 use Rattle.branch_ring.specs.declared.counted.Counted.{Counted}
-use Rattle.branch_ring.specs.Profiles.{count_of, IsKept}
+use Rattle.branch_ring.specs.Profiles.{count_of}
 use Rattle.place_funcs.specs.Edges.{is_in, is_start, count_to, calls, edge}
 use Rattle.place_funcs.specs.Rows.{is_of, is_callee, leaving, share, share_of, IsGiven}
 use Rattle.place_funcs.proofs.Members.{in_head, in_tail, in_none, split_at}

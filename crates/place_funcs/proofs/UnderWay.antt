@@ -1,15 +1,15 @@
 -- What stands between two merges.
-use Rattle.std.proofs.Common.{◌≡◌, ℕ, zero, suc, ◌+◌, ◌-◌, ◌*◌, ◌<◌, ◌≤◌, ◌^◌, Bool, true, false, List, [], ◌∷◌, ◌++◌, length, map, ◌⊎◌, inl, inr, refl, sym, ap, subst, ◌∙◌, arith}
-use Rattle.std.specs.Prelude.{Contains, All, AllPairs, ◌≢◌, Option, Some, None, IfSome, IsSome}
-use Rattle.std.specs.List.{sum_by, flat_map}
+use Rattle.std.proofs.Common.{◌≡◌, ℕ, suc, ◌+◌, ◌-◌, ◌*◌, ◌<◌, ◌≤◌, ◌^◌, List, [], ◌∷◌, ◌++◌, length, map, ◌⊎◌, inl, inr, refl, sym, ap, subst, ◌∙◌, arith}
+use Rattle.std.specs.Prelude.{Contains, All, Option, Some, None, IfSome, IsSome}
+use Rattle.std.specs.List.{sum_by}
 use Rattle.std.specs.List.Sorted.{IsPermutation}
 use Rattle.std.proofs.lemmas.Nat.{mul-le}
 use Rattle.std.proofs.lemmas.List.Elements.{All-contains, Contains-append_left, Contains-append_right}
 use Rattle.std.proofs.lemmas.List.Concat.{flat_map-cons}
-use Rattle.std.proofs.lemmas.List.Sums.{sum_by-append, sum_by-le, sum_by-le-sum_by}
-use Rattle.std.proofs.lemmas.List.Sorted.{Contains-permutation, IsPermutation-sym, IsPermutation-trans, IsPermutation-refl, sum_by-IsPermutation}
+use Rattle.std.proofs.lemmas.List.Sums.{sum_by-append, sum_by-le}
+use Rattle.std.proofs.lemmas.List.Sorted.{Contains-permutation, IsPermutation-sym, IsPermutation-trans, sum_by-IsPermutation}
 use Rattle.place_funcs.specs.declared.link.Link.{Link}
-use Rattle.place_funcs.specs.Groups.{name, alone, joined, with_joined, between, AreTwo, Merges, EndsAfter, IsDone}
+use Rattle.place_funcs.specs.Groups.{name, alone, joined, with_joined, between, Merges, EndsAfter}
 use Rattle.place_funcs.specs.Links.{links_after, AreSmall, IsFirst, IsLink, Tells, TellAll, AreOfGroups, Keeps}
 use Rattle.place_funcs.proofs.Members.{in_none, split_at, name_in}
 use Rattle.place_funcs.proofs.LinkLaws.{no_edge, kept}

@@ -1,5 +1,5 @@
 -- What is kept of groups while they are merged: of each two with a weight over 0 this weight and their heaviest edge.
-use Rattle.std.specs.Prelude.{◌≡◌, ◌≢◌, ℕ, zero, suc, ◌+◌, ◌-◌, ◌<◌, ◌^◌, Bool, true, false, ◌==◌, ◌&&◌, ◌||◌, nat_lt, List, Contains, Option, Some, None, IfSome, if◌then◌else◌}
+use Rattle.std.specs.Prelude.{◌≡◌, ◌≢◌, ℕ, zero, suc, ◌+◌, ◌-◌, ◌<◌, ◌^◌, Bool, false, ◌==◌, ◌&&◌, ◌||◌, nat_lt, List, Contains, Option, Some, None, IfSome, if◌then◌else◌}
 use Rattle.std.specs.Ordering.{nat_cmp, ordering_then}
 use Rattle.std.specs.BTreeMap.{BTreeMap, get}
 use Rattle.std.specs.BTreeMap.Range.{entries_between}
@@ -8,7 +8,7 @@ use Rattle.std.specs.BTreeSet.{BTreeSet, contains}
 use Rattle.std.specs.declared.cmp.Ordering.{Ordering}
 use Rattle.place_funcs.specs.declared.link.Link.{Link}
 use Rattle.place_funcs.specs.declared.table.Table.{Table}
-use Rattle.place_funcs.specs.Groups.{name, Weighed, Leads, between, IsHeaviest}
+use Rattle.place_funcs.specs.Groups.{name, Leads, between, IsHeaviest}
 
 -- l's edge comes before m's: the heavier first, and of equal ones the lesser
 abbrev pub is_ahead : Link → Link → Bool

@@ -1,7 +1,6 @@
-use Rattle.std.proofs.Common.{◌≡◌, ◌+◌, Bool, true, false, refl, sym, ◌∙◌, arith}
-use Rattle.std.specs.Prelude.{not}
+use Rattle.std.proofs.Common.{arith}
 use Rattle.place_funcs.specs.Counts.{has_pair}
-use Rattle.place_funcs.proofs.Tallied.{now_seen, one_more, none_more, low_sum, not_yet, already}
+use Rattle.place_funcs.proofs.Tallied.{now_seen, one_more, low_sum, not_yet}
 use Rattle.place_funcs.proofs.count.count_once.Goals as goal
 
 pub overflow_add-tally : goal.overflow_add-tally

@@ -1,4 +1,4 @@
-use Rattle.std.proofs.Common.{◌≡◌, ℕ, List, map, ap, ◌∙◌, arith}
+use Rattle.std.proofs.Common.{map, ap, ◌∙◌, arith}
 use Rattle.place_funcs.specs.Edges.{edge}
 use Rattle.place_funcs.specs.Groups.{alone}
 use Rattle.place_funcs.specs.Links.{link_at, links_after}

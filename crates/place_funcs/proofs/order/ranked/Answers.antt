@@ -1,4 +1,4 @@
-use Rattle.std.proofs.Common.{◌≡◌, ℕ, ◌∷◌, List, sym, ap, subst, ◌∙◌}
+use Rattle.std.proofs.Common.{ℕ, List, sym, ap, subst, ◌∙◌}
 use Rattle.std.specs.Prelude.{◌<◌, All, length}
 use Rattle.std.proofs.lemmas.List.Elements.{All-head, All-tail}
 use Rattle.std.proofs.lemmas.Map.Iter.{rest_more}

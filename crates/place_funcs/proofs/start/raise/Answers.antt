@@ -1,5 +1,5 @@
 use Rattle.std.proofs.lemmas.Result.{on_ok_weaker}
-use Rattle.std.proofs.Common.{ap, ◌∙◌, arith}
+use Rattle.std.proofs.Common.{ap, arith}
 use Rattle.std.specs.Prelude.{◌+◌}
 use Rattle.place_funcs.specs.Links.{link_at}
 use Rattle.place_funcs.proofs.Raised.{put_lone, put_top}
