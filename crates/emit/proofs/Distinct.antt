@@ -4,7 +4,6 @@ use Rattle.std.specs.Prelude.{Option, Some, None, ◌⊎◌, ◌&&◌, ◌||◌,
 use Rattle.std.specs.List.{flat_map, cons_option}
 use Rattle.std.proofs.lemmas.Bool.{eq-eqb, false≢true}
 use Rattle.std.proofs.lemmas.Option.{slice_get_within, get_or_from_slice_get}
-use Rattle.rv_isa.specs.Conditions.{opposite}
 use Rattle.rv_isa.specs.declared.instr.Cond.{Cond}
 use Rattle.rv_isa.specs.declared.instr.Instr.{Instr}
 use Rattle.rv_isa.specs.declared.instr.Instr.TheVariants as instr
@@ -15,17 +14,16 @@ use Rattle.image.specs.Picture.{Picture, IsKept}
 use Rattle.blocks.specs.declared.word.Word.{Word}
 use Rattle.blocks.specs.declared.run.Run.{Run}
 use Rattle.blocks.specs.Blocks.{runs_of}
-use Rattle.blocks.specs.Sound.{AreRuns, IsSound}
+use Rattle.blocks.specs.Sound.{AreRuns}
 use Rattle.blocks.specs.Sound as found
 use Rattle.blocks.proofs.Soundness.{sound, alone}
 use Rattle.plans.specs.declared.plan.Moved.{Moved}
 use Rattle.plans.specs.Orders.{is_among, repeats}
 use Rattle.layout.specs.declared.point.Point.TheVariants.{Start}
 use Rattle.emit.specs.declared.entry.Made.{Made}
-use Rattle.emit.specs.declared.entry.Made.TheVariants.{Same, Branch, High, Low}
-use Rattle.emit.specs.declared.entry.To.TheVariants.{Over}
+use Rattle.emit.specs.declared.entry.Made.TheVariants.{Same, High, Low}
 use Rattle.emit.specs.declared.entry.Entry.{Entry}
-use Rattle.emit.specs.Entries.{Calls, aimed, start, mid, hop, is_next, branch_of, rendered, word_entries, fall, run_entries, first_from, runs_entries, in_order, is_far, function_entries, is_start, place}
+use Rattle.emit.specs.Entries.{Calls, start, mid, hop, is_next, branch_of, rendered, word_entries, fall, run_entries, first_from, runs_entries, in_order, is_far, function_entries, is_start, place}
 use Rattle.emit.proofs.Branches.{branch_cases}
 use Rattle.emit.proofs.Leading.{function_of, emitted}
 use Rattle.emit.proofs.Places.{Occurs, occurs_left, occurs_right, is_start-true, is_start-own}

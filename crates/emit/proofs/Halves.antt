@@ -3,7 +3,6 @@ use Rattle.std.proofs.Common.{◌≡◌, ℕ, zero, suc, ◌+◌, ◌==◌, Bool
 use Rattle.std.specs.Prelude.{Option, Some, None, slice_get, ◌&&◌, if◌then◌else◌}
 use Rattle.std.specs.List.{flat_map}
 use Rattle.std.proofs.lemmas.Option.{slice_get_within, slice_get-get_or}
-use Rattle.rv_isa.specs.Conditions.{opposite}
 use Rattle.rv_isa.specs.declared.instr.Cond.{Cond}
 use Rattle.rv_isa.specs.declared.instr.Instr.{Instr}
 use Rattle.rv_isa.specs.declared.instr.Instr.TheVariants as instr
@@ -13,10 +12,9 @@ use Rattle.blocks.specs.declared.word.Word.{Word}
 use Rattle.blocks.specs.declared.run.Run.{Run}
 use Rattle.layout.specs.declared.point.Point.{Point}
 use Rattle.layout.specs.declared.point.Point.TheVariants.{Start, Hop, Mid}
-use Rattle.emit.specs.declared.entry.To.TheVariants.{Over}
-use Rattle.emit.specs.declared.entry.Made.TheVariants.{Same, Branch, High, Low}
+use Rattle.emit.specs.declared.entry.Made.TheVariants.{Same, High, Low}
 use Rattle.emit.specs.declared.entry.Entry.{Entry}
-use Rattle.emit.specs.Entries.{Calls, aimed, start, mid, hop, is_next, branch_of, rendered, word_entries, fall, run_entries, first_from, runs_entries, is_far, function_entries}
+use Rattle.emit.specs.Entries.{Calls, start, mid, hop, is_next, branch_of, rendered, word_entries, fall, run_entries, first_from, runs_entries, is_far, function_entries}
 use Rattle.emit.proofs.Branches.{branch_cases}
 use Rattle.emit.proofs.Leading.{Moving, function_of, emitted}
 

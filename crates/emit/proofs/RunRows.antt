@@ -3,20 +3,18 @@ use Rattle.std.proofs.Common.{◌≡◌, ◌≢◌, ℕ, ◌+◌, ◌==◌, Bool
 use Rattle.std.specs.Prelude.{Option, ◌&&◌, if◌then◌else◌}
 use Rattle.std.specs.List.{flat_map}
 use Rattle.std.proofs.lemmas.Bool.{eqb-true}
-use Rattle.rv_isa.specs.Conditions.{opposite}
 use Rattle.rv_isa.specs.declared.instr.Instr.{Instr}
 use Rattle.rv_isa.specs.declared.instr.Instr.TheVariants as instr
 use Rattle.layout.specs.declared.point.Point.TheVariants.{Start}
 use Rattle.image.specs.declared.ranges.Func.{Func}
 use Rattle.image.specs.Targets.{target, made_by}
-use Rattle.emit.specs.declared.entry.Made.TheVariants.{Same, Branch, High, Low}
-use Rattle.emit.specs.declared.entry.To.TheVariants.{Over}
+use Rattle.emit.specs.declared.entry.Made.TheVariants.{Same, High, Low}
 use Rattle.emit.specs.declared.entry.Entry.{Entry}
 use Rattle.blocks.specs.declared.word.Word.{Word}
 use Rattle.blocks.specs.declared.run.Run.{Run}
 use Rattle.emit.proofs.Branches.{branch_cases}
 use Rattle.emit.proofs.Leading.{Leads, IsWord, IsRun, IsBlock, AllBlocks}
-use Rattle.emit.specs.Entries.{Calls, aimed, start, mid, hop, is_next, branch_of, rendered, word_entries, fall, run_entries, first_from, runs_entries}
+use Rattle.emit.specs.Entries.{Calls, start, mid, hop, is_next, rendered, word_entries, fall, run_entries, first_from, runs_entries}
 use Rattle.blocks.specs.Words.{falls_of}
 use Rattle.emit.proofs.EntryRows.{Ahead, Rows, rows_append, NextIs, hop_row, Continues, word_rows}
 

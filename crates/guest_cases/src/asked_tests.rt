@@ -1,6 +1,7 @@
 //! Calls over devices that can't fail: with files that are there and that aren't, and with an input past its limit.
 
 use crate::asked::play_surely;
+use crate::run_tests::words_of;
 use cases::images::file_of;
 use cases::rows::split;
 use std::alloc::Global;
@@ -15,12 +16,9 @@ fn status(alloc: Global, words: &str, input: &str) -> Result<u8, Fail> {
         file_of(alloc, "exit")?,
     ))?;
     files.push((String::from_str(alloc, "script")?, script))?;
-    let mut list = Vec::new(alloc);
-    for word in words.split_whitespace() {
-        list.push(String::from_str(alloc, word)?)?;
-    }
+    let words = words_of(alloc, words)?;
     let input = vec![in alloc; 0u8; input.parse().unwrap_or(0)]?;
-    Ok(play_surely(alloc, &list, files, input).status)
+    Ok(play_surely(alloc, &words, files, input).status)
 }
 
 // What a row shows, the words, the length of the input, and the status.

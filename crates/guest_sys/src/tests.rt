@@ -1,18 +1,22 @@
-//! Tables of calls, a line a call: the hart, the number, five arguments in hexadecimal, and the reply that Linux' manual pages and
-//! the numbers of errno ask for.
+//! Tables of calls, a line a call: the hart, the number, five arguments in hexadecimal, with `@` before a link, and the reply that
+//! Linux' manual pages and the numbers of errno ask for. Other lines give a range rights, store doublewords, or say what an output
+//! holds, how many harts were made, and which bytes the last call wrote.
+ghost use Rattle.std.specs.Prelude.{◌≤◌};
+
 use crate::call::syscall;
 use crate::effect::{Effect, Reply};
 use crate::state::Sys;
+use guest_mem::fault::StoreFault;
 use guest_mem::flat::FlatMem;
 use guest_mem::store::GuestStore;
-use link_tags::origins::{Origins, Same};
+use link_tags::origins::Origins;
 use link_tags::value::Value;
 use oc_base::fault::NoMemory;
+use oc_base::items::Items;
 use oc_base::range::Range;
 use rv_isa::instr::Width;
 use std::alloc::Global;
 use std::test::Fail;
-use texts::split_at_each;
 
 /// Every link goes back to one address.
 struct One;
@@ -25,54 +29,78 @@ impl Origins for One {
     }
 }
 
-/// A page that may be read and written, and after it one that may only be read.
-const AT: u64 = 0x0010_0000;
-
-const ROM: u64 = 0x0010_1000;
-
 #[derive(Drop)]
 struct Guest {
     sys: Sys,
     mem: FlatMem,
     // the clear address of each hart
     clear: u64,
+    // what the last call wrote
+    written: Items<Range>,
 }
 
 impl Guest {
-    /// A guest whose input is `hello`, with the break at 0x200000 and the clear address `AT`.
+    /// A guest whose input is `hello`, with the break at 0x200000. At its clear address it has a page that may be read and written,
+    /// and after it one that may only be read.
     fn new(alloc: Global) -> Result<Guest, NoMemory> {
         let input = Vec::from_slice(alloc, b"hello")?;
-        let mut mem = FlatMem::new(alloc);
-        let page = Range { from: AT, to: ROM };
-        mem.set_rights(page, true, true)?;
-        let rom = Range {
-            from: ROM,
-            to: ROM + 4096,
-        };
-        mem.set_rights(rom, true, false)?;
-        Ok(Guest {
+        let mut guest = Guest {
             sys: Sys::new(alloc, input, 0x0020_0000),
-            mem,
-            clear: AT,
-        })
+            mem: FlatMem::new(alloc),
+            clear: 0x0010_0000,
+            written: Items::new(alloc),
+        };
+        guest.set_rights("100000 101000 rw")?;
+        guest.set_rights("101000 102000 r")?;
+        Ok(guest)
     }
 
-    /// A call of a hart. Where it asks for another clear address, it gets it.
-    fn call(&mut self, alloc: Global, words: &[&[u8]; 9]) -> Result<Effect, NoMemory> {
-        let args = [
-            Value::plain(number(words[2], 16)),
-            Value::plain(number(words[3], 16)),
-            Value::plain(number(words[4], 16)),
-            Value::plain(number(words[5], 16)),
-            Value::plain(number(words[6], 16)),
+    /// Gives a range rights, such as `100000 101000 rw`.
+    fn set_rights(&mut self, line: &str) -> Result<(), NoMemory> {
+        let mut words = line.split_whitespace();
+        let from = number(words.next(), 16);
+        let to = number(words.next(), 16);
+        let rights = words.next().unwrap_or("");
+        let range = Range {
+            from,
+            to: to.min(0x1000_0000),
+        };
+        self.mem
+            .set_rights(range, rights.contains('r'), rights.contains('w'))
+    }
+
+    /// Stores doublewords, such as `100040 100002 2`: two from 0x100040 on.
+    fn store(&mut self, line: &str) -> Result<(), StoreFault> {
+        let mut words = line.split_whitespace();
+        let mut at = number(words.next(), 16);
+        for word in words {
+            self.mem.store(at, Width::D, value(Some(word), 16), &One)?;
+            at = at.wrapping_add(8);
+        }
+        Ok(())
+    }
+
+    /// The reply to a call such as `3 64 1 100000 5 0 0`. Where it asks for another clear address, it gets it.
+    fn call(&mut self, alloc: Global, line: &str) -> Result<String, NoMemory> {
+        let mut words = line.split_whitespace();
+        let hart = (number(words.next(), 10) % 64) as u32;
+        let number = value(words.next(), 10);
+        let zero = Value::plain(0);
+        let regs = [
+            value(words.next(), 16),
+            value(words.next(), 16),
+            value(words.next(), 16),
+            value(words.next(), 16),
+            value(words.next(), 16),
+            zero,
+            zero,
+            number,
         ];
-        let regs = registers(Value::plain(number(words[1], 10)), args);
-        let hart = (number(words[0], 10) % 64) as u32;
         let effect = syscall(
             alloc,
             &mut self.sys,
             &mut self.mem,
-            &Same,
+            &One,
             hart,
             self.clear,
             &regs,
@@ -80,53 +108,80 @@ impl Guest {
         if let Reply::SetClear { clear } = effect.reply {
             self.clear = clear;
         }
-        Ok(effect)
+        let text = shown(alloc, &effect)?;
+        self.written = effect.written;
+        Ok(text)
     }
 
-    /// Whether the call of a line gets its reply.
-    fn agrees(&mut self, alloc: Global, line: &[u8]) -> Result<bool, NoMemory> {
-        let parts = split_at_each(alloc, line, b' ')?;
-        let [h, n, a0, a1, a2, a3, a4, is, reply] = parts.as_slice() else {
-            return Ok(line.is_empty());
-        };
-        let effect = self.call(alloc, &[*h, *n, *a0, *a1, *a2, *a3, *a4, *is, *reply])?;
-        let shown = shown(alloc, &effect)?;
-        Ok(shown.as_str().as_bytes() == *reply)
+    /// Does what a line without an answer says.
+    fn set_up(&mut self, line: &str) -> Result<(), Fail> {
+        match line.split_once(' ') {
+            Some(("rights", rest)) => Ok(self.set_rights(rest)?),
+            Some(("store", rest)) => Ok(self.store(rest)?),
+            _ => Err(Fail::new("no such line")),
+        }
     }
 
-    /// The first line of a table whose reply is another, or 0.
-    fn first_wrong(&mut self, alloc: Global, table: &[u8]) -> Result<u64, NoMemory> {
-        let lines = split_at_each(alloc, table, b'\n')?;
-        let mut place = 0u64;
-        for line in &lines {
-            place = place.wrapping_add(1);
-            if !self.agrees(alloc, *line)? {
-                return Ok(place);
+    /// Whether the answer of a line is this one.
+    fn agrees(&mut self, alloc: Global, asked: &str, wanted: &str) -> Result<bool, NoMemory> {
+        match asked {
+            "output 1" => Ok(self.sys.output(1) == wanted.as_bytes()),
+            "output 2" => Ok(self.sys.output(2) == wanted.as_bytes()),
+            "made" => Ok(u64::from(self.sys.made()) == number(Some(wanted), 10)),
+            "written" => Ok(ranges_text(alloc, self.written.as_slice())?.as_str() == wanted),
+            _ => Ok(self.call(alloc, asked)?.as_str() == wanted),
+        }
+    }
+
+    /// Does what the lines of a table say, and fails at the first with another answer.
+    fn check(&mut self, alloc: Global, table: &str) -> Result<(), Fail> {
+        for line in table.lines() {
+            match line.split_once(" = ") {
+                Some((asked, wanted)) => {
+                    if !self.agrees(alloc, asked, wanted)? {
+                        return Err(Fail::new(String::from_str(alloc, line)?));
+                    }
+                }
+                None => self.set_up(line)?,
             }
         }
-        Ok(0)
+        Ok(())
     }
 }
 
-/// The values of `x10` to `x17` for a call with these arguments.
-fn registers(number: Value, args: [Value; 5]) -> [Value; 8] {
-    let [a0, a1, a2, a3, a4] = args;
-    let zero = Value::plain(0);
-    [a0, a1, a2, a3, a4, zero, zero, number]
+/// Does what the lines of a table say, with a new guest.
+fn check(alloc: Global, table: &str) -> Result<(), Fail> {
+    Guest::new(alloc)?.check(alloc, table)
 }
 
-/// The number that digits write.
-fn number(digits: &[u8], base: u64) -> u64 {
-    let mut number = 0u64;
-    for digit in digits {
-        let value = match *digit {
-            b'0'..=b'9' => *digit - b'0',
-            b'a'..=b'f' => *digit - b'a' + 10,
-            _ => 0,
-        };
-        number = number.wrapping_mul(base).wrapping_add(u64::from(value));
+/// The number that a word writes.
+fn number(word: Option<&str>, base: u32) -> u64
+    requires least { 2 ≤ base }
+    requires most { base ≤ 36 }
+{
+    u64::from_str_radix(word.unwrap_or(""), base).unwrap_or(0)
+}
+
+/// The value that a word writes, which is a link behind an `@`.
+fn value(word: Option<&str>, base: u32) -> Value
+    requires least { 2 ≤ base }
+    requires most { base ≤ 36 }
+{
+    let word = word.unwrap_or("");
+    match word.strip_prefix('@') {
+        Some(link) => Value::link(number(Some(link), base)),
+        None => Value::plain(number(Some(word), base)),
     }
-    number
+}
+
+fn ranges_text(alloc: Global, ranges: &[Range]) -> Result<String, NoMemory> {
+    let mut text = String::new(alloc);
+    for range in ranges {
+        let (from, to) = (range.from, range.to);
+        let comma = if text.is_empty() { "" } else { ", " };
+        text = format!(in alloc; "{text}{comma}{from:x}..{to:x}")?;
+    }
+    Ok(text)
 }
 
 /// A reply in one word, with the harts that are woken.
@@ -168,10 +223,8 @@ fn shown_reply(alloc: Global, reply: Reply) -> Result<String, NoMemory> {
     Ok(text)
 }
 
-#[test]
-fn calls_that_read_registers_alone(rt: HostRuntime) -> Result<(), Fail> {
-    let mut guest = Guest::new(rt.alloc())?;
-    let table = b"3 29 0 0 0 0 0 = -25
+const CALLS_THAT_READ_REGISTERS_ALONE: &str = "\
+3 29 0 0 0 0 0 = -25
 3 94 10007 0 0 0 0 = exits-7
 3 96 10007 0 0 0 0 = clears-10007
 3 99 0 0 0 0 0 = 0
@@ -183,14 +236,14 @@ fn calls_that_read_registers_alone(rt: HostRuntime) -> Result<(), Fail> {
 3 0 0 0 0 0 0 = -38
 3 65 0 0 0 0 0 = -38
 ";
-    assert_eq!(rt; guest.first_wrong(rt.alloc(), table)?, 0);
-    Ok(())
-}
 
 #[test]
-fn bytes_are_read_and_written(rt: HostRuntime) -> Result<(), Fail> {
-    let mut guest = Guest::new(rt.alloc())?;
-    let table = b"3 63 1 100000 3 0 0 = -9
+fn calls_that_read_registers_alone(rt: HostRuntime) -> Result<(), Fail> {
+    check(rt.alloc(), CALLS_THAT_READ_REGISTERS_ALONE)
+}
+
+const BYTES_ARE_READ_AND_WRITTEN: &str = "\
+3 63 1 100000 3 0 0 = -9
 3 63 0 101000 3 0 0 = -14
 3 63 0 100ffe 3 0 0 = -14
 3 63 0 100007 3 0 0 = 3
@@ -203,65 +256,51 @@ fn bytes_are_read_and_written(rt: HostRuntime) -> Result<(), Fail> {
 3 64 1 100008 1 0 0 = 1
 3 64 2 10000b 1 0 0 = 1
 3 64 2 0 0 0 0 = 0
+output 1 = \0hello\0e
+output 2 = o
 ";
-    assert_eq!(rt; guest.first_wrong(rt.alloc(), table)?, 0);
-    assert_eq!(rt; guest.sys.output(1), b"\0hello\0e".as_slice());
-    assert_eq!(rt; guest.sys.output(2), b"o".as_slice());
-    Ok(())
-}
 
 #[test]
-fn parts_are_written_all_or_none(rt: HostRuntime) -> Result<(), Fail> {
-    let mut guest = Guest::new(rt.alloc())?;
-    // Two bytes from 0x100002, one from 0x100000, and more than the page that may only be read.
-    let parts = [0x10_0002, 2, 0x10_0000, 1, 0x10_1000, 4097];
-    let mut at = AT + 64;
-    for number in parts {
-        guest.mem.store(at, Width::D, Value::plain(number), &Same)?;
-        at = at.wrapping_add(8);
-    }
-    let table = b"3 63 0 100000 5 0 0 = 5
+fn bytes_are_read_and_written(rt: HostRuntime) -> Result<(), Fail> {
+    check(rt.alloc(), BYTES_ARE_READ_AND_WRITTEN)
+}
+
+// Two bytes from 0x100002, one from 0x100000, and more than the page that may only be read.
+const PARTS_ARE_WRITTEN_ALL_OR_NONE: &str = "\
+store 100040 100002 2 100000 1 101000 1001
+3 63 0 100000 5 0 0 = 5
 3 66 5 100040 2 0 0 = -9
 3 66 1 100040 401 0 0 = -22
 3 66 1 101ff8 1 0 0 = -14
 3 66 1 100040 3 0 0 = -14
 3 66 1 100040 2 0 0 = 3
 3 66 1 0 0 0 0 = 0
+output 1 = llh
 ";
-    assert_eq!(rt; guest.first_wrong(rt.alloc(), table)?, 0);
-    assert_eq!(rt; guest.sys.output(1), b"llh".as_slice());
-    Ok(())
+
+#[test]
+fn parts_are_written_all_or_none(rt: HostRuntime) -> Result<(), Fail> {
+    check(rt.alloc(), PARTS_ARE_WRITTEN_ALL_OR_NONE)
 }
+
+// One byte, and as many as an output takes.
+const A_FULL_OUTPUT_TAKES_NOTHING: &str = "\
+rights 1000000 2010000 r
+store 100040 100000 1 1000000 1000000
+3 64 1 1000000 1000001 0 0 = full
+3 66 1 100040 2 0 0 = full
+3 66 2 100040 2 0 0 = full
+output 1 = 
+output 2 = 
+";
 
 #[test]
 fn a_full_output_takes_nothing(rt: HostRuntime) -> Result<(), Fail> {
-    let mut guest = Guest::new(rt.alloc())?;
-    let much = Range {
-        from: 0x0100_0000,
-        to: 0x0201_0000,
-    };
-    guest.mem.set_rights(much, true, false)?;
-    // One byte, and as many as an output takes.
-    let parts = [0x10_0000, 1, 0x0100_0000, 0x0100_0000];
-    let mut at = AT + 64;
-    for number in parts {
-        guest.mem.store(at, Width::D, Value::plain(number), &Same)?;
-        at = at.wrapping_add(8);
-    }
-    let table = b"3 64 1 1000000 1000001 0 0 = full
-3 66 1 100040 2 0 0 = full
-3 66 2 100040 2 0 0 = full
-";
-    assert_eq!(rt; guest.first_wrong(rt.alloc(), table)?, 0);
-    assert_eq!(rt; guest.sys.output(1).len(), 0);
-    assert_eq!(rt; guest.sys.output(2).len(), 0);
-    Ok(())
+    check(rt.alloc(), A_FULL_OUTPUT_TAKES_NOTHING)
 }
 
-#[test]
-fn harts_wait_and_are_woken_in_their_order(rt: HostRuntime) -> Result<(), Fail> {
-    let mut guest = Guest::new(rt.alloc())?;
-    let table = b"3 98 100001 2 7 1 0 = -38
+const HARTS_WAIT_AND_ARE_WOKEN_IN_THEIR_ORDER: &str = "\
+3 98 100001 2 7 1 0 = -38
 3 98 100001 0 7 1 0 = -22
 3 98 102000 0 0 1 0 = -38
 3 98 102000 0 0 0 0 = -14
@@ -282,29 +321,28 @@ fn harts_wait_and_are_woken_in_their_order(rt: HostRuntime) -> Result<(), Fail> 
 3 98 100000 3 1 1 100000 = 1+1
 3 98 100000 1 9 0 0 = 2+4+2
 ";
-    assert_eq!(rt; guest.first_wrong(rt.alloc(), table)?, 0);
-    Ok(())
+
+#[test]
+fn harts_wait_and_are_woken_in_their_order(rt: HostRuntime) -> Result<(), Fail> {
+    check(rt.alloc(), HARTS_WAIT_AND_ARE_WOKEN_IN_THEIR_ORDER)
 }
+
+const A_HART_THAT_ENDS_CLEARS_ITS_WORD: &str = "\
+3 63 0 100000 5 0 0 = 5
+3 93 7 0 0 0 0 = ends
+3 64 1 100000 5 0 0 = 5
+output 1 = \0\0\0\0o
+";
 
 #[test]
 fn a_hart_that_ends_clears_its_word(rt: HostRuntime) -> Result<(), Fail> {
-    let mut guest = Guest::new(rt.alloc())?;
-    let table = b"3 63 0 100000 5 0 0 = 5
-3 93 7 0 0 0 0 = ends
-3 64 1 100000 5 0 0 = 5
-";
-    assert_eq!(rt; guest.first_wrong(rt.alloc(), table)?, 0);
-    assert_eq!(rt; guest.sys.output(1), b"\0\0\0\0o".as_slice());
-    Ok(())
+    check(rt.alloc(), A_HART_THAT_ENDS_CLEARS_ITS_WORD)
 }
 
-#[test]
-fn a_clear_address_that_is_no_word_is_left_alone(rt: HostRuntime) -> Result<(), Fail> {
-    let mut guest = Guest::new(rt.alloc())?;
-    let low = Range { from: 0, to: 4096 };
-    guest.mem.set_rights(low, true, true)?;
-    // Harts wait at 0, at an address that is no multiple of 4, and where nothing may be written.
-    let table = b"3 63 0 0 2 0 0 = 2
+// Harts wait at 0, at an address that is no multiple of 4, and where nothing may be written.
+const A_CLEAR_ADDRESS_THAT_IS_NO_WORD_IS_LEFT_ALONE: &str = "\
+rights 0 1000 rw
+3 63 0 0 2 0 0 = 2
 3 63 0 100000 3 0 0 = 3
 1 98 0 0 6568 0 0 = waits-0
 2 98 100008 0 0 0 0 = waits-100008
@@ -318,16 +356,16 @@ fn a_clear_address_that_is_no_word_is_left_alone(rt: HostRuntime) -> Result<(), 
 3 93 0 0 0 0 0 = ends
 3 64 1 0 2 0 0 = 2
 3 64 1 100000 3 0 0 = 3
+output 1 = hello
 ";
-    assert_eq!(rt; guest.first_wrong(rt.alloc(), table)?, 0);
-    assert_eq!(rt; guest.sys.output(1), b"hello".as_slice());
-    Ok(())
-}
 
 #[test]
-fn bytes_are_mapped_and_given_up(rt: HostRuntime) -> Result<(), Fail> {
-    let mut guest = Guest::new(rt.alloc())?;
-    let table = b"3 214 0 0 0 0 0 = 200000
+fn a_clear_address_that_is_no_word_is_left_alone(rt: HostRuntime) -> Result<(), Fail> {
+    check(rt.alloc(), A_CLEAR_ADDRESS_THAT_IS_NO_WORD_IS_LEFT_ALONE)
+}
+
+const BYTES_ARE_MAPPED_AND_GIVEN_UP: &str = "\
+3 214 0 0 0 0 0 = 200000
 3 214 200005 0 0 0 0 = 200005
 3 214 f800001 0 0 0 0 = 200005
 3 64 1 200000 1000 0 0 = 1000
@@ -360,14 +398,14 @@ fn bytes_are_mapped_and_given_up(rt: HostRuntime) -> Result<(), Fail> {
 3 215 f7fe000 1000 0 0 0 = 0
 3 222 0 1 3 22 0 = f7fe000
 ";
-    assert_eq!(rt; guest.first_wrong(rt.alloc(), table)?, 0);
-    Ok(())
-}
 
 #[test]
-fn a_clone_is_refused_in_an_order(rt: HostRuntime) -> Result<(), Fail> {
-    let mut guest = Guest::new(rt.alloc())?;
-    let table = b"3 220 10000 100000 0 0 0 = -22
+fn bytes_are_mapped_and_given_up(rt: HostRuntime) -> Result<(), Fail> {
+    check(rt.alloc(), BYTES_ARE_MAPPED_AND_GIVEN_UP)
+}
+
+const A_CLONE_IS_REFUSED_IN_AN_ORDER: &str = "\
+3 220 10000 100000 0 0 0 = -22
 3 220 100 100000 0 0 0 = -22
 3 220 11100 100000 0 0 0 = -22
 3 220 100010100 100000 0 0 0 = -22
@@ -379,107 +417,51 @@ fn a_clone_is_refused_in_an_order(rt: HostRuntime) -> Result<(), Fail> {
 3 220 1010100 100000 101000 5 100004 = tid-3,100000,0
 3 220 7d0f00 100040 100000 4d 100008 = tid-4,100040,100008,4d
 3 64 1 100000 c 0 0 = c
+output 1 = \x04\0\0\0\x03\0\0\0\x02\0\0\0
 ";
-    assert_eq!(rt; guest.first_wrong(rt.alloc(), table)?, 0);
-    assert_eq!(rt;
-        guest.sys.output(1),
-        [4, 0, 0, 0, 3, 0, 0, 0, 2, 0, 0, 0].as_slice()
-    );
-    Ok(())
+
+#[test]
+fn a_clone_is_refused_in_an_order(rt: HostRuntime) -> Result<(), Fail> {
+    check(rt.alloc(), A_CLONE_IS_REFUSED_IN_AN_ORDER)
 }
 
 #[test]
 fn harts_are_full_at_their_limit(rt: HostRuntime) -> Result<(), Fail> {
     let mut guest = Guest::new(rt.alloc())?;
     for _ in 1..64 {
-        guest.agrees(rt.alloc(), b"3 220 10100 100000 0 0 0 = 0")?;
+        guest.call(rt.alloc(), "3 220 10100 100000 0 0 0")?;
     }
-    assert_eq!(rt; guest.sys.made(), 64);
-    let table = b"3 220 10100 100000 0 0 0 = harts-full";
-    assert_eq!(rt; guest.first_wrong(rt.alloc(), table)?, 0);
-    Ok(())
+    guest.check(
+        rt.alloc(),
+        "made = 64\n3 220 10100 100000 0 0 0 = harts-full",
+    )
 }
+
+// The flags with which musl makes a thread.
+const A_THREAD_GETS_WHAT_ITS_FLAGS_ASK_FOR: &str = "\
+0 220 7d0f00 100040 100000 4d 100008 = tid-2,100040,100008,4d
+written = 100000..100004
+";
 
 #[test]
 fn a_thread_gets_what_its_flags_ask_for(rt: HostRuntime) -> Result<(), Fail> {
-    let mut guest = Guest::new(rt.alloc())?;
-    // The flags with which musl makes a thread.
-    let args = [
-        Value::plain(0x7d_0f00),
-        Value::plain(AT + 64),
-        Value::plain(AT),
-        Value::plain(77),
-        Value::plain(AT + 8),
-    ];
-    let regs = registers(Value::plain(220), args);
-    let effect = syscall(
-        rt.alloc(),
-        &mut guest.sys,
-        &mut guest.mem,
-        &Same,
-        0,
-        0,
-        &regs,
-    )?;
-    let made = Reply::Clone {
-        stack: AT + 64,
-        tls: Some(77),
-        clear: AT + 8,
-        tid: 2,
-    };
-    assert_eq!(rt; effect.reply, made);
-    let word = Range {
-        from: AT,
-        to: AT + 4,
-    };
-    assert_eq!(rt; effect.written.as_slice(), [word].as_slice());
-    Ok(())
+    check(rt.alloc(), A_THREAD_GETS_WHAT_ITS_FLAGS_ASK_FOR)
 }
+
+const LINKS_ARE_SEEN_BY_THEIR_ORIGINAL_NUMBERS_AND_REFUSED_IN_REGISTERS: &str = "\
+store 100000 @12014
+0 64 1 100000 3 1 @12014 = 3
+output 1 = \x28\0\x01
+0 64 1 @12014 @12014 1 1 = link-11
+0 @64 @12014 @12014 @12014 1 1 = link-17
+";
 
 #[test]
 fn links_are_seen_by_their_original_numbers_and_refused_in_registers(
     rt: HostRuntime,
 ) -> Result<(), Fail> {
-    let mut guest = Guest::new(rt.alloc())?;
-    guest.mem.store(AT, Width::D, Value::link(0x12014), &One)?;
-    let one = Value::plain(1);
-    let link = Value::link(0x12014);
-    let regs = registers(
-        Value::plain(64),
-        [one, Value::plain(AT), Value::plain(3), one, link],
-    );
-    let effect = syscall(
+    check(
         rt.alloc(),
-        &mut guest.sys,
-        &mut guest.mem,
-        &One,
-        0,
-        0,
-        &regs,
-    )?;
-    assert_eq!(rt; effect.reply, Reply::Answer(3));
-    assert_eq!(rt; guest.sys.output(1), [0x28, 0, 1].as_slice());
-    let regs = registers(Value::plain(64), [one, link, link, one, one]);
-    let effect = syscall(
-        rt.alloc(),
-        &mut guest.sys,
-        &mut guest.mem,
-        &One,
-        0,
-        0,
-        &regs,
-    )?;
-    assert_eq!(rt; effect.reply, Reply::LinkUse { reg: 11 });
-    let regs = registers(Value::link(64), [link, link, link, one, one]);
-    let effect = syscall(
-        rt.alloc(),
-        &mut guest.sys,
-        &mut guest.mem,
-        &One,
-        0,
-        0,
-        &regs,
-    )?;
-    assert_eq!(rt; effect.reply, Reply::LinkUse { reg: 17 });
-    Ok(())
+        LINKS_ARE_SEEN_BY_THEIR_ORIGINAL_NUMBERS_AND_REFUSED_IN_REGISTERS,
+    )
 }

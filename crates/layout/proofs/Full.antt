@@ -24,7 +24,7 @@ use Rattle.layout.specs.declared.point.Point.{Point}
 use Rattle.layout.specs.declared.point.Point.TheVariants.{Start, Mid}
 use Rattle.layout.specs.Laid.{Laid, IsLaid, item_at, point_in}
 use Rattle.layout.specs.Points.{StandsFor, at_start, at_hop, read, aim_func, site_of, start_of}
-use Rattle.layout.specs.Rows.{Near, Next, AimsAt, MovedRow, StartRow, HopRow, no_word, unread, kept, address_in_place, address_moved, jump, site, jump_register, call_second, branch, branch_inverted}
+use Rattle.layout.specs.Rows.{Next, MovedRow, StartRow, no_word, unread, kept, address_in_place, address_moved, jump, site, jump_register, call_second, branch, branch_inverted}
 use Rattle.layout.specs.Rows as rows
 use Rattle.layout.specs.Alone.{InRegion}
 use Rattle.layout.specs.Tests.{same_cond, is_mid, stands, starts, returns, kept_test, sum_test, moved_test, jump_test, starts_at, second_test, branch_test, row_test}

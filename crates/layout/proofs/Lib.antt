@@ -1,8 +1,10 @@
+pub mod Apart
+pub mod ByBase
 pub mod CallLookups
 pub mod CallWords
-pub mod Places
 pub mod Exact
 pub mod Full
+pub mod Places
 pub mod Plain
 pub mod Sound
 pub mod TextRows

@@ -15,7 +15,7 @@ use Rattle.layout.specs.declared.point.Point.{Point}
 use Rattle.layout.specs.declared.point.Point.TheVariants.{Start, Hop, Mid}
 use Rattle.layout.specs.Laid.{Laid, IsLaid, item_at, point_in}
 use Rattle.layout.specs.Points.{StandsFor, at_start, at_hop, read, second_of, start_of}
-use Rattle.layout.specs.Rows.{Near, Next, AimsAt, MovedRow, StartRow, HopRow}
+use Rattle.layout.specs.Rows.{Near, Next, AimsAt, MovedRow, StartRow}
 use Rattle.layout.specs.Rows as rows
 use Rattle.layout.specs.Alone.{InRegion}
 use Rattle.layout.specs.Tests.{same_cond, stands_as, starts_as, is_mid, point_alone, stands, starts, returns, kept_test, sum_test, moved_test, jump_test, starts_at, second_test, branch_test, row_test}

@@ -12,7 +12,7 @@ use Rattle.layout.specs.Alone.{NamesCalls}
 use Rattle.layout.proofs.Places.{item_within}
 use Rattle.patcher.specs.declared.goal.Goal.{Goal}
 use Rattle.patcher.specs.Goals.{goal_of, goal_at}
-use Rattle.patcher.specs.Patched.{IsSet, IsPatchedLayout, ArePatched, LieApart, joined}
+use Rattle.patcher.specs.Patched.{IsSet, IsPatchedLayout, ArePatched, joined}
 use Rattle.patcher.proofs.Patching.{same_item}
 
 -- ---- one layout

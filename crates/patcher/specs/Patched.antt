@@ -7,6 +7,7 @@ use Rattle.layout.specs.Laid.{Laid, IsLaid, item_at, with_word}
 use Rattle.layout.specs.Points.{code_of}
 use Rattle.layout.specs.Rows.{Renders}
 use Rattle.layout.specs.Alone.{NamesCalls, RendersAlone}
+use Rattle.layout.specs.Apart.{LieApart}
 use Rattle.patcher.specs.declared.goal.Goal.{Goal}
 use Rattle.patcher.specs.declared.patches.Patch.{Patch}
 use Rattle.patcher.specs.declared.patches.Patches.{Patches}
@@ -91,9 +92,6 @@ ArePatched p new (l ∷ ls) (m ∷ ms) = IsPatchedLayout p new l m × ArePatched
 ArePatched p new _ _ = ⊥
 
 -- ---- that the words render the program again
-abbrev pub LieApart : Laid → Laid → Type 0
-LieApart l m = (l.base + 4 * length l.words ≤ m.base) ⊎ (m.base + 4 * length m.words ≤ l.base)
-
 -- a layout that may be placed beside the live ones
 pub record CanJoin (p : Picture) (lives : List Laid) (l : Laid) : Type 0 where
   pub laid : IsLaid l

@@ -4,9 +4,8 @@
 
 ghost use Rattle.std.specs.Prelude.{◌≡◌};
 
-use cases::images::image_of;
-use cases::layouts::layout_of;
-use cases::rows::split;
+use cases::layouts::made_layout;
+use cases::rows::{check, separate};
 use image::picture::Image;
 use image::ranges::Aim;
 use layout::layout::Layout;
@@ -23,10 +22,7 @@ fn layouts_of(alloc: Global, image: &Image, text: &str) -> Result<Vec<Layout>, F
     let mut layouts = Vec::new(alloc);
     for text in text.split(", ") {
         if text != "none" {
-            let Ok(layout) = layout_of(alloc, image, text)? else {
-                return Err(Fail::new("no layout"));
-            };
-            layouts.push(layout)?;
+            layouts.push(made_layout(alloc, image, text)?)?;
         }
     }
     Ok(layouts)
@@ -56,77 +52,75 @@ fn patched(
     Ok(Ok(()))
 }
 
+/// The words of calls of text, where they stand so many bytes behind.
 fn push_words(
     words: &mut String,
-    alloc: Global,
     text: &TextNow,
     calls: &[Aim],
     past: u64,
 ) -> Result<(), AllocError> {
     for call in calls {
         let word = text.word(call.at.wrapping_add(past)).unwrap_or(0);
-        words.push_str(&format!(in alloc; " {word:08x}")?)?;
+        separate(words, " ")?;
+        write!(words, "{word:08x}")?;
     }
     Ok(())
 }
 
-fn push_live_words(
-    words: &mut String,
-    alloc: Global,
-    layout: &Layout,
-    calls: &[Aim],
-) -> Result<(), AllocError> {
+fn push_live_words(words: &mut String, layout: &Layout, calls: &[Aim]) -> Result<(), AllocError> {
     for call in calls {
         let word = layout.word_at(call.at).unwrap_or(0);
-        words.push_str(&format!(in alloc; " {word:08x}")?)?;
+        separate(words, " ")?;
+        write!(words, "{word:08x}")?;
     }
     Ok(())
 }
 
 /// The words of all calls.
-fn words_of(
+fn words_text(
     alloc: Global,
     image: &Image,
     text: &TextNow,
     lives: &[Layout],
 ) -> Result<String, AllocError> {
     let mut words = String::new(alloc);
-    push_words(&mut words, alloc, text, image.sites(), 0)?;
-    push_words(&mut words, alloc, text, image.pairs(), 4)?;
+    push_words(&mut words, text, image.sites(), 0)?;
+    push_words(&mut words, text, image.pairs(), 4)?;
     for layout in lives {
         words.push_str(",")?;
-        push_live_words(&mut words, alloc, layout, layout.sites())?;
-        push_live_words(&mut words, alloc, layout, layout.pairs())?;
+        push_live_words(&mut words, layout, layout.sites())?;
+        push_live_words(&mut words, layout, layout.pairs())?;
     }
     Ok(words)
 }
 
-/// The words of all calls after the layouts of a case, such as `0:0 at 12000 | 1:0 at 12100`.
-fn case_text(alloc: Global, guest: &str, case: &str) -> Result<String, Fail> {
-    let image = image_of(alloc, guest)?;
-    let (old, new) = case.split_once(" | ").unwrap_or(("", ""));
-    let mut text = TextNow::of(alloc, &image)?;
-    let mut lives = layouts_of(alloc, &image, old)?;
-    let news = layouts_of(alloc, &image, new)?;
-    match patched(alloc, &image, &mut text, &mut lives, news.first())? {
-        Ok(()) => Ok(words_of(alloc, &image, &text, &lives)?),
-        Err(ReachFault::BranchReach { at, target }) => {
-            Ok(format!(in alloc; " reach {at:x} {target:x}")?)
-        }
-        Err(ReachFault::NoMemory) => Ok(String::from_str(alloc, " out of memory")?),
+fn fault_text(alloc: Global, fault: ReachFault) -> Result<String, AllocError> {
+    match fault {
+        ReachFault::BranchReach { at, target } => format!(in alloc; "reach {at:x} {target:x}"),
+        ReachFault::NoMemory => String::from_str(alloc, "out of memory"),
     }
 }
 
-/// The first row with other words than are wanted, and those.
-fn first_wrong(alloc: Global, rows: &str) -> Result<String, Fail> {
-    for row in rows.lines() {
-        let (guest, case, wanted) = split(row);
-        let got = case_text(alloc, guest, case)?;
-        if got.strip_prefix(' ') != Some(wanted) {
-            return Ok(format!(in alloc; "{row}:{got}")?);
-        }
+/// The words of all calls after these layouts.
+fn patched_text(
+    alloc: Global,
+    image: &Image,
+    lives: &mut [Layout],
+    new: Option<&Layout>,
+) -> Result<String, Fail> {
+    let mut text = TextNow::of(alloc, image)?;
+    match patched(alloc, image, &mut text, lives, new)? {
+        Ok(()) => Ok(words_text(alloc, image, &text, lives)?),
+        Err(fault) => Ok(fault_text(alloc, fault)?),
     }
-    Ok(String::new(alloc))
+}
+
+/// The words of all calls after the layouts of a case, such as `0:0 at 12000 | 1:0 at 12100`.
+fn case_text(alloc: Global, image: &Image, case: &str) -> Result<String, Fail> {
+    let (old, new) = case.split_once(" | ").unwrap_or(("", ""));
+    let mut lives = layouts_of(alloc, image, old)?;
+    let news = layouts_of(alloc, image, new)?;
+    patched_text(alloc, image, &mut lives, news.first())
 }
 
 const SITES: &str = "\
@@ -138,8 +132,7 @@ countdown in 12000..132000 | none | 1:0 1 2 at 200000 = reach 10000 200000";
 
 #[test]
 fn sites_go_to_the_new_layout(rt: HostRuntime) -> Result<(), Fail> {
-    assert_eq!(rt; first_wrong(rt.alloc(), SITES)?.as_str(), "");
-    Ok(())
+    check(rt.alloc(), SITES, case_text)
 }
 
 const PAIRS: &str = "\
@@ -150,8 +143,7 @@ far call in 12000..132000 | 0:0 at 12000 | none = 010080e7, 010080e7";
 
 #[test]
 fn pairs_go_there_or_are_original(rt: HostRuntime) -> Result<(), Fail> {
-    assert_eq!(rt; first_wrong(rt.alloc(), PAIRS)?.as_str(), "");
-    Ok(())
+    check(rt.alloc(), PAIRS, case_text)
 }
 
 const OUT_OF_REACH: &str = "\
@@ -161,6 +153,5 @@ apart in 1000..2000 | none | 1:0 at 1000 = reach 196a08 1000";
 
 #[test]
 fn the_first_call_out_of_reach_is_told(rt: HostRuntime) -> Result<(), Fail> {
-    assert_eq!(rt; first_wrong(rt.alloc(), OUT_OF_REACH)?.as_str(), "");
-    Ok(())
+    check(rt.alloc(), OUT_OF_REACH, case_text)
 }

@@ -1,5 +1,5 @@
 -- What is found among the matches is what the words say.
-use Rattle.std.proofs.Common.{◌≡◌, ◌∙◌, ◌+◌, ◌==◌, ◌≤◌, ◌<◌, ◌^◌, ℕ, List, [], ◌∷◌, length, eqb, Bool, true, false, Option, Some, None, Bor, MatchOption, inl, inr, refl, sym, subst, ap, codes, arith, lit<}
+use Rattle.std.proofs.Common.{◌≡◌, ◌∙◌, ◌+◌, ◌==◌, ◌<◌, ℕ, List, [], ◌∷◌, length, eqb, Bool, true, false, Option, Some, None, Bor, MatchOption, inl, inr, refl, sym, subst, ap, codes, arith, lit<}
 use Rattle.std.specs.List.{after_first, position_or_len}
 use Rattle.std.proofs.lemmas.Bool.{ne_eqb}
 use Rattle.std.proofs.lemmas.List.{drop_all}

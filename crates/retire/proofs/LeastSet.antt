@@ -6,7 +6,7 @@ use Rattle.finite.proofs.OneList.{one_rising}
 use Rattle.layout.specs.Laid.{Laid}
 use Rattle.retire.specs.References.{PointInto, CallsInto, Refers, by_pointer, by_call, AreUnreferenced}
 use Rattle.retire.proofs.Closing.{called}
-use Rattle.retire.proofs.Places.{there}
+use Rattle.layout.proofs.Apart.{there}
 
 pub least_set : (lives : List Laid) (held : List ℕ) (set : ℕ → Bool) → ((k : ℕ) → PointInto lives held k → set k ≡ true)
     → ((j k : ℕ) → j ≢ k → set j ≡ true → CallsInto lives j k → set k ≡ true) → (k : ℕ) → Refers lives held k → set k ≡ true

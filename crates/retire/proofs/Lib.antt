@@ -1,4 +1,3 @@
 pub mod Closing
 pub mod LeastSet
 pub mod Marking
-pub mod Places

@@ -8,10 +8,11 @@ use Rattle.std.proofs.lemmas.List.Elements.{Contains-push, Contains-push_cases, 
 use Rattle.std.proofs.lemmas.List.Sums.{sum_by-set}
 use Rattle.std.proofs.lemmas.Option.{slice_get_within, slice_get-get_or}
 use Rattle.layout.specs.Laid.{Laid}
-use Rattle.retire.specs.References.{Covers, LiesIn, PointInto}
+use Rattle.layout.specs.Apart.{Covers, LiesIn}
+use Rattle.retire.specs.References.{PointInto}
 use Rattle.retire.specs.Marks.{IsMarked, Marked}
 use Rattle.retire.specs.declared.marks.Marks.{Marks}
-use Rattle.retire.proofs.Places.{there}
+use Rattle.layout.proofs.Apart.{there}
 
 -- nothing is marked where all were marked before
 pub unchanged : (P : ℕ → Type 0) (m : Marks) → ((k : ℕ) → P k → IsMarked m.marked.items k) → Marked P m m

@@ -1,5 +1,5 @@
 -- Which layouts are referred to. Source: after OCOLOS.
-use Rattle.std.specs.Prelude.{◌≢◌, ◌↔◌, ℕ, ◌+◌, ◌*◌, ◌≤◌, ◌<◌, ◌⊎◌, List, ◌++◌, length, Any, AllPairs, Contains, Option, Some, None}
+use Rattle.std.specs.Prelude.{◌≢◌, ◌↔◌, ℕ, ◌<◌, List, ◌++◌, length, Any, AllPairs, Contains, Option, Some, None}
 use Rattle.std.specs.List.{slice_get, filter_map}
 use Rattle.std.specs.Option.{IsSomeAnd}
 use Rattle.rv_isa.specs.declared.instr.Instr.{Instr}
@@ -7,23 +7,10 @@ use Rattle.rv_isa.specs.declared.instr.Instr.TheVariants.{Jal}
 use Rattle.image.specs.declared.ranges.Aim.{Aim}
 use Rattle.image.specs.Targets.{target}
 use Rattle.layout.specs.Laid.{Laid, item_at}
+use Rattle.layout.specs.Apart.{LiesIn}
 use Rattle.layout.specs.Points.{read}
 
-abbrev pub end_of : Laid → ℕ
-end_of l = l.base + 4 * length l.words
-
--- one ends before the other begins
-abbrev pub LieApart : Laid → Laid → Type 0
-LieApart l m = (end_of l ≤ m.base) ⊎ (end_of m ≤ l.base)
-
-abbrev pub Covers : ℕ → Laid → Type 0
-Covers a l = (l.base ≤ a) × (a < end_of l)
-
--- an address lies in the layout at a position
-abbrev pub LiesIn : List Laid → (a k : ℕ) → Type 0
-LiesIn lives a k = IsSomeAnd (slice_get lives k) (Covers a)
-
--- one of these addresses does
+-- one of these addresses lies in the layout at a position
 abbrev pub PointInto : List Laid → List ℕ → ℕ → Type 0
 PointInto lives addresses k = Any (λ a. LiesIn lives a k) addresses
 

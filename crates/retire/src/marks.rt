@@ -1,7 +1,8 @@
 //! Positions that are marked, and those of them whose layouts are yet to be followed.
 
 ghost use Rattle.std.specs.Prelude.{◌≡◌, ℕ, ◌<◌, [], length, OnOk, IfOk};
-ghost use Rattle.retire.specs.References.{LiesIn, PointInto};
+ghost use Rattle.layout.specs.Apart.{LiesIn};
+ghost use Rattle.retire.specs.References.{PointInto};
 ghost use Rattle.retire.specs.Marks.{Marked};
 
 use crate::index::Index;

@@ -1,7 +1,8 @@
 //! The layouts that nothing refers to.
 
 ghost use Rattle.std.specs.Prelude.{◌<◌, ◌^◌, ◌++◌, length, AllPairs, IfOk};
-ghost use Rattle.retire.specs.References.{LieApart, AreUnreferenced};
+ghost use Rattle.layout.specs.Apart.{LieApart};
+ghost use Rattle.retire.specs.References.{AreUnreferenced};
 ghost use Rattle.retire.specs.Marks.{IsClosing, AreReferred, AreUnmarked};
 
 use crate::aims::aims_of;

@@ -3,11 +3,10 @@
 //! wanted was worked out by hand from the layouts' addresses.
 
 ghost use Rattle.std.specs.Prelude.{◌↔◌, All, AllPairs, OnOk, IfOk, IsTrue};
-ghost use Rattle.retire.specs.References.{LieApart};
+ghost use Rattle.layout.specs.Apart.{LieApart};
 
-use cases::images::image_of;
-use cases::layouts::layout_of;
-use cases::rows::split;
+use cases::layouts::made_layout;
+use cases::rows::{check, separate};
 use image::picture::Image;
 use layout::layout::Layout;
 use retire::unreferenced::unreferenced;
@@ -84,9 +83,7 @@ fn push_layout(
     if text == "none" {
         return Ok(());
     }
-    let Ok(mut layout) = layout_of(alloc, image, text)? else {
-        return Err(Fail::new("no layout"));
-    };
+    let mut layout = made_layout(alloc, image, text)?;
     send_all(&mut layout, calls)?;
     push_apart(lives, layout)
 }
@@ -115,42 +112,37 @@ fn addresses(alloc: Global, pointers: &str, kind: &str) -> Result<Vec<u64>, Allo
 }
 
 fn positions_text(alloc: Global, positions: &[u32]) -> Result<String, AllocError> {
+    if positions.is_empty() {
+        return String::from_str(alloc, "none");
+    }
     let mut text = String::new(alloc);
     for k in positions {
-        text.push_str(&format!(in alloc; " {k}")?)?;
-    }
-    if positions.is_empty() {
-        text.push_str(" none")?;
+        separate(&mut text, " ")?;
+        write!(text, "{k}")?;
     }
     Ok(text)
 }
 
-/// The positions of a case such as `0:0 at 12000, 1:0 1 2 at 12100 | 12000 to 12100 | pc 12004`.
-fn case_text(alloc: Global, guest: &str, case: &str) -> Result<String, Fail> {
-    let image = image_of(alloc, guest)?;
-    let (texts, rest) = case.split_once(" | ").unwrap_or(("", ""));
-    let (calls, pointers) = rest.split_once(" | ").unwrap_or(("", ""));
-    let lives = layouts_of(alloc, &image, texts, calls)?;
+/// The positions of those of layouts into which none of some pointers leads.
+fn answer_of(alloc: Global, lives: &[Layout], pointers: &str) -> Result<String, Fail>
+    requires { AllPairs LieApart lives.now }
+{
     if lives.len() > 100 {
         return Err(Fail::new("too many"));
     }
     let pcs = addresses(alloc, pointers, "pc")?;
     let links = addresses(alloc, pointers, "link")?;
     let aims = addresses(alloc, pointers, "aim")?;
-    let positions = unreferenced(alloc, &lives, &pcs, &links, &aims)?;
+    let positions = unreferenced(alloc, lives, &pcs, &links, &aims)?;
     Ok(positions_text(alloc, &positions)?)
 }
 
-/// The first row with other positions than are wanted, and those.
-fn first_wrong(alloc: Global, rows: &str) -> Result<String, Fail> {
-    for row in rows.lines() {
-        let (guest, case, wanted) = split(row);
-        let got = case_text(alloc, guest, case)?;
-        if got.strip_prefix(' ') != Some(wanted) {
-            return Ok(format!(in alloc; "{row}:{got}")?);
-        }
-    }
-    Ok(String::new(alloc))
+/// The positions of a case such as `0:0 at 12000, 1:0 1 2 at 12100 | 12000 to 12100 | pc 12004`.
+fn case_text(alloc: Global, image: &Image, case: &str) -> Result<String, Fail> {
+    let (texts, rest) = case.split_once(" | ").unwrap_or(("", ""));
+    let (calls, pointers) = rest.split_once(" | ").unwrap_or(("", ""));
+    let lives = layouts_of(alloc, image, texts, calls)?;
+    answer_of(alloc, &lives, pointers)
 }
 
 /// The layout of `main` has 5 words, and that of `work` 7.
@@ -172,8 +164,7 @@ ascending: countdown | 0:0 at 12400, 1:0 1 2 at 12300, 0:0 at 12200, 1:0 1 2 at 
 
 #[test]
 fn pointers_keep_what_they_point_into(rt: HostRuntime) -> Result<(), Fail> {
-    assert_eq!(rt; first_wrong(rt.alloc(), POINTERS)?.as_str(), "");
-    Ok(())
+    check(rt.alloc(), POINTERS, case_text)
 }
 
 /// `main` calls in its second word, `rec` in its fifth, by itself its own first one.
@@ -197,6 +188,5 @@ pair: far call | 0:0 at 12000, 1:0 at 12100 | 12008 to 12100 | pc 12000 = none";
 
 #[test]
 fn calls_of_kept_layouts_keep(rt: HostRuntime) -> Result<(), Fail> {
-    assert_eq!(rt; first_wrong(rt.alloc(), CALLS)?.as_str(), "");
-    Ok(())
+    check(rt.alloc(), CALLS, case_text)
 }

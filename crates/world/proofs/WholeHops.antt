@@ -3,7 +3,6 @@ use Rattle.std.proofs.Common.{◌≡◌, ℕ, zero, suc, ◌+◌, ◌%◌, ◌==
 use Rattle.std.specs.Prelude.{Option, Some, None, slice_get, All, ◌&&◌, if◌then◌else◌}
 use Rattle.std.specs.List.{flat_map, cons_option}
 use Rattle.std.proofs.lemmas.List.Elements.{All-nil, All-cons}
-use Rattle.rv_isa.specs.Conditions.{opposite}
 use Rattle.rv_isa.specs.declared.instr.Cond.{Cond}
 use Rattle.rv_isa.specs.declared.instr.Instr.{Instr}
 use Rattle.rv_isa.specs.declared.instr.Instr.TheVariants as instr
@@ -18,10 +17,9 @@ use Rattle.blocks.proofs.Soundness.{sound}
 use Rattle.plans.specs.declared.plan.Moved.{Moved}
 use Rattle.plans.specs.Given.{plan_fault}
 use Rattle.layout.specs.Laid.{Laid}
-use Rattle.emit.specs.declared.entry.To.TheVariants.{Over}
-use Rattle.emit.specs.declared.entry.Made.TheVariants.{Same, Branch, High, Low}
+use Rattle.emit.specs.declared.entry.Made.TheVariants.{Same, High, Low}
 use Rattle.emit.specs.declared.entry.Entry.{Entry}
-use Rattle.emit.specs.Entries.{Calls, calls_of, entries_of, aimed, start, mid, hop, is_next, branch_of, rendered, word_entries, fall, run_entries, first_from, runs_entries, is_far, function_entries, in_order}
+use Rattle.emit.specs.Entries.{Calls, calls_of, entries_of, start, mid, hop, is_next, branch_of, rendered, word_entries, fall, run_entries, first_from, runs_entries, is_far, function_entries, in_order}
 use Rattle.emit.specs.Placed.{point_of}
 use Rattle.emit.specs.Emitted.{IsEmitted, plan_unreadable}
 use Rattle.emit.proofs.Branches.{branch_cases}

@@ -1,5 +1,5 @@
 use Rattle.std.specs.Prelude.{AllPairs}
-use Rattle.retire.specs.References.{LieApart}
+use Rattle.layout.specs.Apart.{LieApart}
 use Rattle.retire_cases.proofs.retire_tests.layouts_of.Given as goal
 
 abbrev pub invariant-loop-text : goal.invariant-loop-text

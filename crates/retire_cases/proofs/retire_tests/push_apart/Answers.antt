@@ -2,7 +2,7 @@ use Rattle.std.proofs.Common.{subst}
 use Rattle.std.specs.Prelude.{List, All}
 use Rattle.std.proofs.lemmas.List.Quantifiers.{all_pairs_push}
 use Rattle.layout.specs.Laid.{Laid}
-use Rattle.retire.specs.References.{LieApart}
+use Rattle.layout.specs.Apart.{LieApart}
 use Rattle.retire_cases.proofs.retire_tests.push_apart.Goals as goal
 
 pub returns : goal.returns

@@ -1,0 +1,14 @@
+pub mod Joining
+pub mod Once
+pub mod Slotted
+pub mod Taken
+pub mod Ended
+pub mod Started
+pub mod Rises
+pub mod Sorting
+pub mod Found
+pub mod Weighing
+pub mod Edged
+pub mod Counts
+pub mod Laid
+pub mod Ordered

@@ -1,0 +1,6 @@
+use Rattle.std.proofs.Common.{◌∙◌, ◌-◌, get_or, ap, sym, arith}
+use Rattle.place_blocks.proofs.Ended.{ends_last}
+use Rattle.place_blocks.proofs.linked.Chain.ends.Goals as goal
+
+pub returns : goal.returns
+returns c = ends_last c.args.block c.at.result c.args.self.now (omega (arith, c.len-count.ensures, c.if-count-eq0.false)) (sym (c.at.ensures ∙ ap (λ n. get_or c.args.self.now (n - 1) 0) c.len-count.ensures))

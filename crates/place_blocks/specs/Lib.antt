@@ -1,0 +1,10 @@
+pub mod Chains
+pub mod Edges
+pub mod Gains
+pub mod Inputs
+pub mod Orders
+pub mod Passes
+pub mod Places
+pub mod Ranks
+pub mod Rising
+pub mod Slots

@@ -1,0 +1,6 @@
+pub mod Counts
+pub mod Edges
+pub mod Grouping
+pub mod Groups
+pub mod Links
+pub mod Rows
