@@ -1,5 +1,5 @@
 -- What a run delivers is what the original machine delivers. Source: this project; the outline is OCOLOS (Zhang et al., MICRO 2022).
-use Rattle.std.specs.Prelude.{◌≡◌, ◌≢◌, ⊥, ℕ, List, [], ◌∷◌, ◌++◌, Contains, false, is_some, Ok, sum_by}
+use Rattle.std.specs.Prelude.{◌≡◌, ◌≢◌, ℕ, List, [], ◌∷◌, ◌++◌, Contains, false, is_some, Ok, sum_by}
 use Rattle.oc_base.specs.Outside.{Disk}
 use Rattle.top_call.specs.Reading.{given_by}
 use Rattle.image.specs.Picture.{Picture}
