@@ -33,13 +33,13 @@ retires w v n = by_end (is_some w.machine.outcome) refl
     by_end false e is = retiring.done n e is
 
 -- a snapshot that is taken
-pub snaps : (w v : Replaced) (done : Unit {0}) → SnapsAs w (is_some w.machine.outcome) (Ok done) v → Snaps w v
-snaps w v done = by_end (is_some w.machine.outcome) refl
+pub snaps : (w v : Replaced) (u : Unit {0}) → SnapsAs w (is_some w.machine.outcome) (Ok u) v → Snaps w v
+snaps w v u = by_end (is_some w.machine.outcome) refl
   where
-    by_end : (b : Bool) → is_some w.machine.outcome ≡ b → SnapsAs w b (Ok done) v → Snaps w v
+    by_end : (b : Bool) → is_some w.machine.outcome ≡ b → SnapsAs w b (Ok u) v → Snaps w v
     by_end true e is = records.over e is
     by_end false e is = records.done e is
 
 pub snaps_as : (w v : Replaced) (answer : Result Unit Full) → SnapsAs w (is_some w.machine.outcome) answer v → OnOk answer (Snaps w v)
-snaps_as w v (Ok done) is = snaps w v done is
+snaps_as w v (Ok u) is = snaps w v u is
 snaps_as w v (Err e) is = tt

@@ -1,5 +1,5 @@
 -- Words, files and input ask for one thing.
-use Rattle.std.proofs.Common.{◌≡◌, ℕ, List, [], ◌∷◌, Option, Some, None, Result, Ok, Err, refl, ap, sym, subst, ◌∙◌}
+use Rattle.std.proofs.Common.{◌≡◌, ℕ, List, [], ◌∷◌, Option, Some, None, Result, Ok, Err, replicate, refl, ap, sym, subst, ◌∙◌}
 use Rattle.oc_base.specs.Outside.{Disk}
 use Rattle.oc_base.specs.declared.range.Range.{Range}
 use Rattle.top_call.specs.Call.{DecidesBy}
@@ -66,8 +66,8 @@ one_text _ _ _ _ _ (as_generated count p a) (as_generated _ q b) = refl
 
 module _ (laws : Laws) (one : OneResult) where
   one_of_event : (e : Event) (hs ks : List ℕ) (w u v : Replaced) (o : State) → Stands w o → Obeys e hs w u → Obeys e ks w v → u ≡ v
-  one_of_event (Steps h n) hs ks w u v o at a b = one_of_steps (atoms_of (Steps h n) w) hs ks w u v (steps_are n h) a b
-  one_of_event (Real h n) hs ks w u v o at a b = one_of_steps (atoms_of (Real h n) w) hs ks w u v (reals_are n h) a b
+  one_of_event (Steps h n) hs ks w u v o at a b = one_of_steps (replicate n (a_step h)) hs ks w u v (steps_are n h) a b
+  one_of_event (Real h n) hs ks w u v o at a b = one_of_steps (replicate n (a_real_step h)) hs ks w u v (reals_are n h) a b
   one_of_event (Till n) hs ks w u v o at a b = one_of_steps (turns n w) hs ks w u v (turns_are n w) a b
   one_of_event Snap hs ks w u v o at a b = a.4.1 ∙ one.snapped w a.0 b.0 a.2 b.2 ∙ sym b.4.1
   one_of_event Replace hs ks w u v o at a b =

@@ -19,10 +19,10 @@ use Rattle.play.specs.Originals.{InPlace}
 -- ---- places
 split_plays : (before rest : List Event) (hs : List ℕ) (w v : Replaced) → Plays (before ++ rest) hs w v
     → (u : Replaced) × (first : List ℕ) × (later : List ℕ) × Plays before first w u × (hs ≡ first ++ later) × Plays rest later u v
-split_plays [] rest hs w v p = (w, ([], (hs, ((refl, refl), (refl, p)))))
+split_plays [] rest hs w v p = (w, [], hs, (refl, refl), refl, p)
 split_plays (e ∷ es) rest hs w v p =
     let s = split_plays es rest p.2 p.0 v p.5 in
-    (s.0, (p.1 ++ s.1, (s.2, ((p.0, (p.1, (s.1, (p.3, (refl, s.3))))), (p.4 ∙ ap (λ t. p.1 ++ t) s.4 ∙ sym (append_assoc p.1 s.1 s.2), s.5)))))
+    (s.0, p.1 ++ s.1, s.2, (p.0, p.1, s.1, p.3, refl, s.3), p.4 ∙ ap (λ t. p.1 ++ t) s.4 ∙ sym (append_assoc p.1 s.1 s.2), s.5)
 
 pub in_place : (start world : Replaced) (hs : List ℕ) (events before : List Event) (e : Event) (after : List Event) → events ≡ before ++ e ∷ after → Plays events hs start world → InPlace start hs world before e after
 in_place start world hs events before e after is plays =
@@ -105,4 +105,4 @@ plays_keep (e ∷ es) hs w v p = λ x has.
 pub refusal_kept : (why : Refusal) (w : Replaced) → Contains (refused_as why w).refusals (record { attempt = more w.counts.attempts; refusal = why })
 refusal_kept why w =
     let one : Refused = record { attempt = more w.counts.attempts; refusal = why } in
-    Contains-append_right w.refusals (one ∷ []) one (0, (omega arith, refl))
+    Contains-append_right w.refusals (one ∷ []) one (0, omega arith, refl)

@@ -2,9 +2,9 @@
 use Rattle.std.proofs.Common.{◌≡◌, ℕ, zero, suc, ◌+◌, ◌-◌, ◌<◌, true, List, [], ◌∷◌, ◌++◌, drop, get_or, length, replicate, is_some, ap, sym, refl, subst, ◌∙◌, arith}
 use Rattle.std.specs.List.{range_with_len}
 use Rattle.std.proofs.lemmas.List.{drop_more}
-use Rattle.sim_laws.specs.Steps.{replaced_step, stepped}
-use Rattle.machine.specs.Steps.{step_with}
+use Rattle.sim_laws.specs.Steps.{stepped}
 use Rattle.sched_log.specs.declared.event.Event.{Event}
+use Rattle.world.proofs.Stepping.{ended_step}
 use Rattle.world.specs.Worlds.{Replaced, step_of}
 use Rattle.world.specs.Runs.{Atom, a_step, a_real_step, Makes, IsRun, harts_of, until_real, real_step_of, real_steps_of}
 use Rattle.play.specs.Events.{stretch, harts_in, stretched, turns, Runs, Obeyed, Played}
@@ -39,8 +39,7 @@ turn_runs n w v r = runs_append (stretch (harts_in w)) (turns n (stretched (hart
 
 -- ---- a run that has ended stays as it is
 step_stays : (h : ℕ) (w : Replaced) → is_some w.machine.outcome ≡ true → step_of h w ≡ w
-unfolding step_of replaced_step stepped step_with
-step_stays h w over = rw (over) refl
+step_stays h w over = ended_step h w over
 
 real_step_stays : (h : ℕ) (w : Replaced) → is_some w.machine.outcome ≡ true → real_step_of h w ≡ w
 unfolding until_real stepped
