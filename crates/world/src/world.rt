@@ -186,7 +186,9 @@ impl World {
     pub fn retired(&self) -> u64
         ensures { result ≡ retired_in self.now }
     {
-        self.counts.placed.saturating_sub(self.lives.layouts.len() as u64)
+        self.counts
+            .placed
+            .saturating_sub(self.lives.layouts.len() as u64)
     }
 
     /// How many layouts are live.

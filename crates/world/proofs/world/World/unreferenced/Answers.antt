@@ -11,7 +11,7 @@ use Rattle.world.proofs.world.World.unreferenced.Goals as goal
 pub unreferenced-requires-clause-few : goal.unreferenced-requires-clause-few
 unreferenced-requires-clause-few c =
     let i = c.self.inside in
-    rw c.deref.ensures.value (few i.image.region i.lives.items i.region.free (spread_of i.image i.text i.lives.items i.numbers.items i.region.free c.self.invariant.1))
+    rw c.deref.ensures.value (few i.image.region i.lives.layouts.items i.region.free (spread_of i.image i.text i.lives.layouts.items i.numbers.items i.region.free c.self.invariant.1))
 
 pub unreferenced-requires-clause-apart : goal.unreferenced-requires-clause-apart
 unreferenced-requires-clause-apart c = rw c.deref.ensures.value c.self.invariant.1.apart
