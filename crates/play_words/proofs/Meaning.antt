@@ -10,7 +10,7 @@ use Rattle.clap.specs.declared.error.kind.ErrorKind.TheVariants.{OutOfMemory}
 use Rattle.clap.specs.declared.parser.matches.Found.{Found}
 use Rattle.clap.proofs.WalkLemmas.{first_value-rows}
 use Rattle.play_words.specs.Numbers.{number_of, decimal_of, region_from, region_of}
-use Rattle.play_words.specs.Words.{command, is_taken, words_by, words_in, words_of, named, names_of}
+use Rattle.play_words.specs.Words.{command, is_taken, words_by, words_in, words_of}
 use Rattle.play_words.specs.declared.words.Words.{Words}
 
 pub simple : is_simple_and_free command ≡ true
@@ -42,7 +42,7 @@ refused_by a words e is has other = some_is_refused words e (subst (λ a. is_sim
 
 by_rows : (f : Found) → words_by (first_value f) ≡ words_in (rows_of f)
 unfolding words_by
-by_rows f = rw (first_value-rows f (codes "program"), first_value-rows f (codes "script"), first_value-rows f (codes "region"), first_value-rows f (codes "report")) refl
+by_rows f = rw (first_value-rows f (codes "program"), first_value-rows f (codes "script"), first_value-rows f (codes "region"), first_value-rows f (codes "ring"), first_value-rows f (codes "generate"), first_value-rows f (codes "report")) refl
 
 pub said : (words : List (List ℕ)) (f : Found) (o : Option Words) → is_taken words ≡ true → rows_of f ≡ matches_of command words → words_by (first_value f) ≡ o → words_of words ≡ o
 unfolding words_of
@@ -51,14 +51,6 @@ said words f o taken rows by = rw taken (ap words_in (sym rows) ∙ (sym (by_row
 pub unsaid : (words : List (List ℕ)) → is_taken words ≡ false → words_of words ≡ None
 unfolding words_of
 unsaid words refused = rw refused refl
-
--- ---- names
-
-pub names_said : (words : List (List ℕ)) (said : Words) → words_of words ≡ Some said → names_of words ≡ said.program ∷ said.script ∷ []
-names_said words said is = ap named is
-
-pub names_unsaid : (words : List (List ℕ)) → words_of words ≡ None → names_of words ≡ []
-names_unsaid words none = ap named none
 
 -- ---- the region
 

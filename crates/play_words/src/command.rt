@@ -11,19 +11,22 @@ use clap::{Arg, ArgAction, ArgMatches, Command};
 use oc_base::fault::NoMemory;
 use std::alloc::Global;
 
-// Two positionals, an option and a flag.
+// Two positionals, three options and a flag.
 fn command<'a>(alloc: Global) -> Result<Command<'a>, NoMemory>
     ensures { IfOk result (λ c. app_of c ≡ command) }
 {
     let program = Arg::new(alloc, "program");
     let script = Arg::new(alloc, "script");
     let region = Arg::new(alloc, "region").long("region");
+    let ring = Arg::new(alloc, "ring").long("ring");
+    let generate = Arg::new(alloc, "generate").long("generate");
     let report = Arg::new(alloc, "report")
         .long("report")
         .action(ArgAction::SetTrue);
     let play = Command::new(alloc, "ocolos_play").no_binary_name(true);
     let named = play.arg(program)?.arg(script)?;
-    Ok(named.arg(region)?.arg(report)?)
+    let sized = named.arg(region)?.arg(ring)?;
+    Ok(sized.arg(generate)?.arg(report)?)
 }
 
 /// What the words give the command. Every refusal of the library is `Usage`, help too, except out of memory.

@@ -1,44 +1,59 @@
 //! Words and what they say, as `clap` documents its reading and as the ranges stand.
 
-use crate::words::{Words, WordsFault, read_words};
+use crate::words::{Guest, Words, WordsFault, read_words};
+use oc_base::range::Range;
 use std::alloc::Global;
 use std::process::Abort;
 use std::test::Fail;
 
-// Words with one blank between each two, and behind the bar what they say: the program, the script, the region's ends or
-// `none`, and `report` or `quiet`. An empty word is written `''`.
+// Words with one blank between each two, and behind the bar what they say: the program and the script, or `generated` and the
+// number, the region's ends or `none`, the ring, and `report` or `quiet`. An empty word is written `''`.
 const READ: &str = "\
-p s|p s none quiet
-p s --report|p s none report
---report p s|p s none report
-p --report s|p s none report
-p s --region 0x20000:0x1000|p s 131072..135168 quiet
-p s --region 131072:4096|p s 131072..135168 quiet
-p s --region=0x20000:4096|p s 131072..135168 quiet
---region 0x20000:4096 p s|p s 131072..135168 quiet
---region=0x20000:4096 --report p s|p s 131072..135168 report
-p --region 0x20000:4096 s --report|p s 131072..135168 report
-p s --region 0x20000:8388608|p s 131072..8519680 quiet
-p s --region 0:4096|p s 0..4096 quiet
-p s --region 0xABCDE000:0x00800000|p s 2882396160..2890784768 quiet
-p s --region 0xabcde000:0x800000|p s 2882396160..2890784768 quiet
-p s --region 0xfffff000:4096|p s 4294963200..4294967296 quiet
-p s --region 9999998976:8388608|p s 9999998976..10008387584 quiet
-p s --region 0000131072:4096|p s 131072..135168 quiet
--- p s|p s none quiet
-p -- s|p s none quiet
-p s --|p s none quiet
---report -- p s|p s none report
--- --report --region|--report --region none quiet
-p -- --report|p --report none quiet
--- -- -x|-- -x none quiet
-- s|- s none quiet
-help version|help version none quiet
---report help s|help s none report
-'' s|'' s none quiet
-p ''|p '' none quiet
-p p|p p none quiet
-äöü 中文|äöü 中文 none quiet";
+p s|p s none 4096 quiet
+p s --report|p s none 4096 report
+--report p s|p s none 4096 report
+p --report s|p s none 4096 report
+p s --region 0x20000:0x1000|p s 131072..135168 4096 quiet
+p s --region 131072:4096|p s 131072..135168 4096 quiet
+p s --region=0x20000:4096|p s 131072..135168 4096 quiet
+--region 0x20000:4096 p s|p s 131072..135168 4096 quiet
+--region=0x20000:4096 --report p s|p s 131072..135168 4096 report
+p --region 0x20000:4096 s --report|p s 131072..135168 4096 report
+p s --region 0x20000:8388608|p s 131072..8519680 4096 quiet
+p s --region 0:4096|p s 0..4096 4096 quiet
+p s --region 0xABCDE000:0x00800000|p s 2882396160..2890784768 4096 quiet
+p s --region 0xabcde000:0x800000|p s 2882396160..2890784768 4096 quiet
+p s --region 0xfffff000:4096|p s 4294963200..4294967296 4096 quiet
+p s --region 9999998976:8388608|p s 9999998976..10008387584 4096 quiet
+p s --region 0000131072:4096|p s 131072..135168 4096 quiet
+-- p s|p s none 4096 quiet
+p -- s|p s none 4096 quiet
+p s --|p s none 4096 quiet
+--report -- p s|p s none 4096 report
+-- --report --region|--report --region none 4096 quiet
+p -- --report|p --report none 4096 quiet
+-- -- -x|-- -x none 4096 quiet
+- s|- s none 4096 quiet
+help version|help version none 4096 quiet
+--report help s|help s none 4096 report
+'' s|'' s none 4096 quiet
+p ''|p '' none 4096 quiet
+p p|p p none 4096 quiet
+äöü 中文|äöü 中文 none 4096 quiet
+p s --ring 1|p s none 1 quiet
+p s --ring 65536|p s none 65536 quiet
+p s --ring 0x10|p s none 16 quiet
+p s --ring 0x00010000|p s none 65536 quiet
+p s --ring 0000000004|p s none 4 quiet
+p --ring=4 s --report|p s none 4 report
+--ring 4 -- p s|p s none 4 quiet
+p s --region 0x20000:4096 --ring 2|p s 131072..135168 2 quiet
+--generate 1|generated 1 none 4096 quiet
+--generate=1000|generated 1000 none 4096 quiet
+--generate 0x3e8|generated 1000 none 4096 quiet
+--report --generate 0000000007|generated 7 none 4096 report
+--generate 7 --ring 16 --region 0x20000:4096|generated 7 131072..135168 16 quiet
+--generate 7 --|generated 7 none 4096 quiet";
 
 // Words that are refused, of which one row has none.
 const REFUSED: &str = "\
@@ -64,11 +79,35 @@ p s --no-report
 p s --report --report
 p s --report=true
 p s --report=
-p s --ring 4096
-p s --ring=4096
---generate 1
---generate=1
+p s --ring 0
+p s --ring 65537
+p s --ring 0X10
+p s --ring 00000000004
+p s --ring 0x000000004
+p s --ring 4 --ring 4
+p s --ring -4
+p s --ring=-4
+p s --ring=+4
+p s --ring=
+p s --ring ''
+p s --ring
+p s --ring 4:4
+--ring 4
+p --ring 4
 p s --generate 1
+p --generate 1
+-- p --generate 1
+--generate 1 -- p
+--generate 0
+--generate 1001
+--generate 4294967297
+--generate -1
+--generate 1.
+--generate 1 1
+--generate 1 --generate 1
+--generate
+--generate=
+--generate ''
 p s --region
 --region p s
 p s --region=
@@ -121,17 +160,29 @@ fn name(text: &str) -> &str {
     if text.is_empty() { "''" } else { text }
 }
 
-fn said(alloc: Global, words: &Words) -> Result<String, Fail> {
-    let program = name(words.program.as_str());
-    let script = name(words.script.as_str());
-    let report = if words.report { "report" } else { "quiet" };
-    match words.region {
-        Some(region) => {
-            let (from, to) = (region.from, region.to);
-            Ok(format!(in alloc; "{program} {script} {from}..{to} {report}")?)
+fn guest_text(alloc: Global, guest: &Guest) -> Result<String, Fail> {
+    match guest {
+        Guest::Files { program, script } => {
+            let (program, script) = (name(program.as_str()), name(script.as_str()));
+            Ok(format!(in alloc; "{program} {script}")?)
         }
-        None => Ok(format!(in alloc; "{program} {script} none {report}")?),
+        Guest::Generated { count } => Ok(format!(in alloc; "generated {count}")?),
     }
+}
+
+fn region_text(alloc: Global, region: Option<Range>) -> Result<String, Fail> {
+    match region {
+        Some(Range { from, to }) => Ok(format!(in alloc; "{from}..{to}")?),
+        None => Ok(String::from_str(alloc, "none")?),
+    }
+}
+
+fn said(alloc: Global, words: &Words) -> Result<String, Fail> {
+    let guest = guest_text(alloc, &words.guest)?;
+    let region = region_text(alloc, words.region)?;
+    let ring = words.ring;
+    let report = if words.report { "report" } else { "quiet" };
+    Ok(format!(in alloc; "{guest} {region} {ring} {report}")?)
 }
 
 fn check(rt: &(impl Abort + AllocGlobal), row: &str) -> Result<(), Fail> {
@@ -149,7 +200,7 @@ fn check(rt: &(impl Abort + AllocGlobal), row: &str) -> Result<(), Fail> {
 }
 
 #[test]
-fn words_name_two_files_and_what_else_is_asked(rt: HostRuntime) -> Result<(), Fail> {
+fn words_name_two_files_or_a_guest_and_what_else_is_asked(rt: HostRuntime) -> Result<(), Fail> {
     for row in READ.lines() {
         check(&rt, row)?;
     }

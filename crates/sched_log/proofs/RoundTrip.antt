@@ -15,7 +15,7 @@ use Rattle.sched_log.specs.Lines.{line_of, plan_line, by_words, command, moves, 
 use Rattle.image.specs.Picture.{Picture, IsKept}
 use Rattle.plans.specs.declared.plan.Moved.{Moved}
 use Rattle.sched_log.specs.Script.{count, event_of, kind_of, fault_of, events_of, script}
-use Rattle.sched_log.specs.Printed.{spaced, plan_text, line_text, terminated, printed, ReadsAs}
+use Rattle.sched_log.specs.Printed.{spaced, plan_text, line_text, terminated, printed, as_read, ReadsAs}
 use Rattle.sched_log.specs.Ranges.{IsInRange, AreInRange, IsShort}
 use Rattle.sched_log.proofs.PlanBack.{plan_back, plan_without}
 use Rattle.sched_log.proofs.Writable.{written}
@@ -23,7 +23,7 @@ use Rattle.sched_log.proofs.Steps.{faults_from, fault_start}
 use Rattle.sched_log.specs.declared.line.Line.{Line}
 use Rattle.sched_log.specs.declared.line.Line.TheVariants.{Does, End}
 use Rattle.sched_log.specs.declared.event.Event.{Event}
-use Rattle.sched_log.specs.declared.event.Event.TheVariants.{Steps, Real, Till, Given, Retire}
+use Rattle.sched_log.specs.declared.event.Event.TheVariants.{Steps, Real, Till, Snap, Replace, Given, Retire}
 
 -- the words of a line
 two_words : (name : List ℕ) (n : ℕ) → All (λ b. eqb b 32 ≡ false) name → n < 2 ^ 64 → slice_split (λ b. eqb b 32) (spaced name (decimal n)) ≡ name ∷ decimal n ∷ []
@@ -47,6 +47,9 @@ till_without c low = All-from_recursion (λ b. eqb b c ≡ false) (codes "till")
 
 replace_one : IsOneLine (codes "replace")
 replace_one = All-from_recursion (λ b. eqb b 10 ≡ false) (codes "replace") (refl, (refl, (refl, (refl, (refl, (refl, (refl, tt)))))))
+
+snap_one : IsOneLine (codes "snap")
+snap_one = All-from_recursion (λ b. eqb b 10 ≡ false) (codes "snap") (refl, (refl, (refl, (refl, tt))))
 
 retire_one : IsOneLine (codes "retire")
 retire_one = All-from_recursion (λ b. eqb b 10 ≡ false) (codes "retire") (refl, (refl, (refl, (refl, (refl, (refl, tt))))))
@@ -89,6 +92,14 @@ planned_line p (m ∷ ms) is some =
     rw long is
 
 -- a line of one word
+snap_line : (p : Picture) → line_of p (codes "snap") ≡ Does Snap
+unfolding line_of command
+snap_line p = refl
+
+replace_line : (p : Picture) → line_of p (codes "replace") ≡ Does Replace
+unfolding line_of command
+replace_line p = refl
+
 retire_line : (p : Picture) → line_of p (codes "retire") ≡ Does Retire
 unfolding line_of command
 retire_line p = refl
@@ -100,6 +111,8 @@ line_back p (Real h n) kept short w = begun p _ _ _ _ refl refl (three_words (co
     (real_read (decimal h) (decimal n) _ (some_digits h (omega (arith, w.0))) (some_digits n (omega (arith, w.1))) (of_hart_read Real h n w.0 w.1))
 line_back p (Till n) kept short w = begun p _ _ _ _ refl refl (two_words (codes "till") n (till_without 32 (omega arith)) (omega (arith, w)))
     (till_read (decimal n) n (some_digits n (omega (arith, w))) (decimal_read n w))
+line_back p Snap kept short w = snap_line p
+line_back p Replace kept short w = replace_line p
 line_back p (Given ms) kept short w = planned_line p ms (plan_back p ms w.0 (written p ms kept w.1 short) w.1) w.0
 line_back p Retire kept short w = retire_line p
 
@@ -111,6 +124,8 @@ one_line : (p : Picture) (e : Event) → IsKept p → IsShort e → IsInRange p 
 one_line p (Steps h n) kept short w = spaced_one (codes "steps") (spaced (decimal h) (decimal n)) (steps_without 10 (omega arith)) (spaced_one (decimal h) (decimal n) (not_in_decimal 10 h (omega arith) (omega (arith, w.0))) (not_in_decimal 10 n (omega arith) (omega (arith, w.1))))
 one_line p (Real h n) kept short w = spaced_one (codes "real") (spaced (decimal h) (decimal n)) (real_without 10 (omega arith)) (spaced_one (decimal h) (decimal n) (not_in_decimal 10 h (omega arith) (omega (arith, w.0))) (not_in_decimal 10 n (omega arith) (omega (arith, w.1))))
 one_line p (Till n) kept short w = spaced_one (codes "till") (decimal n) (till_without 10 (omega arith)) (not_in_decimal 10 n (omega arith) (omega (arith, w)))
+one_line p Snap kept short w = snap_one
+one_line p Replace kept short w = replace_one
 one_line p (Given ms) kept short w = All-append (λ b. eqb b 10 ≡ false) (codes "replace") (plan_text ms) replace_one (plan_without 10 ms (λ r. omega (arith, r)) refl refl refl (written p ms kept w.1 short))
 one_line p Retire kept short w = retire_one
 
@@ -162,3 +177,39 @@ reads_back p es text is kept short w =
       fine = ap (fault_of p) is ∙ sym (fault_start p (printed es)) ∙ lines;
       same = ap (events_of p) is ∙ events_back p es kept short w.each;
     }
+
+-- a plan that moves nothing is written as the word alone
+same_line : (e : Event) → line_text (as_read e) ≡ line_text e
+same_line (Steps h n) = refl
+same_line (Real h n) = refl
+same_line (Till n) = refl
+same_line Snap = refl
+same_line Replace = refl
+same_line (Given []) = refl
+same_line (Given (m ∷ ms)) = refl
+same_line Retire = refl
+
+same_lines : (es : List Event) → flat_map (λ e. terminated (line_text e)) (map as_read es) ≡ flat_map (λ e. terminated (line_text e)) es
+same_lines [] = refl
+same_lines (e ∷ es) = rw (same_line e, same_lines es) refl
+
+same_text : (es : List Event) → printed (map as_read es) ≡ printed es
+unfolding printed
+same_text es = ap (λ lines. lines ++ terminated (codes "end")) (same_lines es)
+
+short_as_read : (e : Event) → IsShort e → IsShort (as_read e)
+short_as_read (Steps h n) short = tt
+short_as_read (Real h n) short = tt
+short_as_read (Till n) short = tt
+short_as_read Snap short = tt
+short_as_read Replace short = tt
+short_as_read (Given []) short = tt
+short_as_read (Given (m ∷ ms)) short = short
+short_as_read Retire short = tt
+
+all_short : (es : List Event) → AllByRecursion IsShort es → AllByRecursion IsShort (map as_read es)
+all_short [] short = tt
+all_short (e ∷ es) short = (short_as_read e short.0, all_short es short.1)
+
+pub reads_as_read : (p : Picture) (es : List Event) (text : List ℕ) → text ≡ printed es → IsKept p → AllByRecursion IsShort es → AreInRange p (map as_read es) → ReadsAs p (map as_read es) text
+reads_as_read p es text is kept short w = reads_back p (map as_read es) text (is ∙ sym (same_text es)) kept (all_short es short) w

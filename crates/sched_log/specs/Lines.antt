@@ -11,7 +11,7 @@ use Rattle.plans.specs.Given.{plan_fault}
 use Rattle.sched_log.specs.Plans.{words, any_empty, is_plan, parts_of}
 use Rattle.sched_log.specs.Limits.{last_hart, wrong_form, bad_number, no_function, not_a_plan}
 use Rattle.sched_log.specs.declared.event.Event.{Event}
-use Rattle.sched_log.specs.declared.event.Event.TheVariants.{Steps, Real, Till, Given, Retire}
+use Rattle.sched_log.specs.declared.event.Event.TheVariants.{Steps, Real, Till, Snap, Replace, Given, Retire}
 use Rattle.sched_log.specs.declared.line.Line.{Line}
 use Rattle.sched_log.specs.declared.line.Line.TheVariants.{Passed, Does, End, Wrong}
 
@@ -29,6 +29,8 @@ turns None = Wrong bad_number
 unfoldable pub command : List (List ℕ) → Line
 command (name ∷ []) =
     if bytes_eq name (codes "end") then End
+    else if bytes_eq name (codes "snap") then Does Snap
+    else if bytes_eq name (codes "replace") then Does Replace
     else if bytes_eq name (codes "retire") then Does Retire
     else Wrong wrong_form
 command (name ∷ n ∷ []) = if bytes_eq name (codes "till") then turns (number_of n) else Wrong wrong_form

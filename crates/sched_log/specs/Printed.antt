@@ -4,7 +4,7 @@ use Rattle.image.specs.Picture.{Picture}
 use Rattle.plans.specs.declared.plan.Moved.{Moved}
 use Rattle.sched_log.specs.Script.{fault_of, events_of}
 use Rattle.sched_log.specs.declared.event.Event.{Event}
-use Rattle.sched_log.specs.declared.event.Event.TheVariants.{Steps, Real, Till, Given, Retire}
+use Rattle.sched_log.specs.declared.event.Event.TheVariants.{Steps, Real, Till, Snap, Replace, Given, Retire}
 
 -- words with a space (32) between them
 abbrev pub spaced : List ℕ → List ℕ → List ℕ
@@ -28,6 +28,8 @@ abbrev pub line_text : Event → List ℕ
 line_text (Steps h n) = spaced (codes "steps") (spaced (decimal h) (decimal n))
 line_text (Real h n) = spaced (codes "real") (spaced (decimal h) (decimal n))
 line_text (Till n) = spaced (codes "till") (decimal n)
+line_text Snap = codes "snap"
+line_text Replace = codes "replace"
 line_text (Given parts) = codes "replace" ++ plan_text parts
 line_text Retire = codes "retire"
 
@@ -38,6 +40,11 @@ terminated line = line ++ 10 ∷ []
 -- the lines of the events in order, and the end
 unfoldable pub printed : List Event → List ℕ
 printed events = flat_map (λ e. terminated (line_text e)) events ++ terminated (codes "end")
+
+-- an event as it is read again: a plan that moves nothing is written as the word alone
+abbrev pub as_read : Event → Event
+as_read (Given []) = Replace
+as_read e = e
 
 -- the text is a script for this image, and asks for these events
 pub record ReadsAs (p : Picture) (events : List Event) (text : List ℕ) : Type 0 where

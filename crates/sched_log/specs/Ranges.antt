@@ -7,7 +7,7 @@ use Rattle.plans.specs.Given.{plan_fault}
 use Rattle.sched_log.specs.Script.{count}
 use Rattle.sched_log.specs.Limits.{last_hart, count_limit}
 use Rattle.sched_log.specs.declared.event.Event.{Event}
-use Rattle.sched_log.specs.declared.event.Event.TheVariants.{Steps, Real, Till, Given, Retire}
+use Rattle.sched_log.specs.declared.event.Event.TheVariants.{Steps, Real, Till, Snap, Replace, Given, Retire}
 use Rattle.sched_log.specs.declared.line.Line.{Line}
 use Rattle.sched_log.specs.declared.line.Line.TheVariants.{Does}
 
@@ -16,6 +16,8 @@ abbrev pub IsInRange : Picture → Event → Type 0
 IsInRange p (Steps h n) = (h ≤ last_hart) × (n < 2 ^ 32)
 IsInRange p (Real h n) = (h ≤ last_hart) × (n < 2 ^ 32)
 IsInRange p (Till n) = n < 2 ^ 32
+IsInRange p Snap = ⊤
+IsInRange p Replace = ⊤
 IsInRange p (Given parts) = (0 < length parts) × (plan_fault p parts ≡ None)
 IsInRange p Retire = ⊤
 

@@ -8,7 +8,7 @@ use Rattle.sched_log.specs.Lines.{line_of}
 use Rattle.image.specs.Picture.{Picture}
 use Rattle.sched_log.specs.Limits.{end_missing, after_end, past_limit, count_limit}
 use Rattle.sched_log.specs.declared.event.Event.{Event}
-use Rattle.sched_log.specs.declared.event.Event.TheVariants.{Steps, Real, Till, Given, Retire}
+use Rattle.sched_log.specs.declared.event.Event.TheVariants.{Steps, Real, Till, Snap, Replace, Given, Retire}
 use Rattle.sched_log.specs.declared.line.Line.{Line}
 use Rattle.sched_log.specs.declared.line.Line.TheVariants as line
 use Rattle.sched_log.specs.declared.fault.ScriptFault.{ScriptFault}
@@ -28,11 +28,14 @@ abbrev pub count : Event → ℕ
 count (Steps h n) = n
 count (Real h n) = n
 count (Till n) = n
+count Snap = 0
+count Replace = 0
 count (Given parts) = 0
 count Retire = 0
 
--- how many plans an event has
+-- how many plans an event has, a snapshot's among them
 abbrev pub plan_count : Event → ℕ
+plan_count Replace = 1
 plan_count (Given parts) = 1
 plan_count _ = 0
 

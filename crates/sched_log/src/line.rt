@@ -43,6 +43,12 @@ fn of_one(name: &[u8]) -> Line
     if name == b"end".as_slice() {
         return Line::End;
     }
+    if name == b"snap".as_slice() {
+        return Line::Does(Event::Snap);
+    }
+    if name == b"replace".as_slice() {
+        return Line::Does(Event::Replace);
+    }
     if name == b"retire".as_slice() {
         return Line::Does(Event::Retire);
     }

@@ -12,11 +12,14 @@ fn events_are_written_as_lines_and_the_end(rt: HostRuntime) -> Result<(), NoMemo
         Event::Till {
             n: 18446744073709551615,
         },
+        Event::Snap,
+        Event::Replace,
+        Event::Retire,
     ];
     let text = write_log(rt.alloc(), &events)?;
     assert_eq!(rt;
         text.as_slice(),
-        b"steps 63 0\nreal 0 10\ntill 18446744073709551615\nend\n".as_slice()
+        b"steps 63 0\nreal 0 10\ntill 18446744073709551615\nsnap\nreplace\nretire\nend\n".as_slice()
     );
     Ok(())
 }

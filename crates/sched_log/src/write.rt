@@ -1,9 +1,9 @@
 //! Writing a script.
 
-ghost use Rattle.std.specs.Prelude.{◌≡◌, ◌<◌, ◌^◌, ◌++◌, string_bytes, IfOk, OnOk};
+ghost use Rattle.std.specs.Prelude.{◌≡◌, ◌<◌, ◌^◌, ◌++◌, map, string_bytes, IfOk, OnOk};
 ghost use Rattle.std.specs.List.{AllByRecursion};
 ghost use Rattle.image.specs.Picture.{Picture, IsKept};
-ghost use Rattle.sched_log.specs.Printed.{row, part_text, plan_text, line_text, terminated, printed, ReadsAs};
+ghost use Rattle.sched_log.specs.Printed.{row, part_text, plan_text, line_text, terminated, printed, as_read, ReadsAs};
 ghost use Rattle.sched_log.specs.Ranges.{AreInRange, HasShortBlocks, IsShort};
 ghost use Rattle.std.specs.Fmt.{decimal};
 
@@ -65,6 +65,8 @@ fn push_line(text: &mut String, event: &Event) -> Result<(), NoMemory>
         Event::Steps { h, n } => writeln!(text, "steps {h} {n}")?,
         Event::Real { h, n } => writeln!(text, "real {h} {n}")?,
         Event::Till { n } => writeln!(text, "till {n}")?,
+        Event::Snap => text.push_str("snap\n")?,
+        Event::Replace => text.push_str("replace\n")?,
         Event::Given(plan) => {
             text.push_str("replace")?;
             push_plan(text, plan.parts())?;
@@ -89,10 +91,12 @@ fn text_of(alloc: Global, events: &[Event]) -> Result<String, NoMemory>
     Ok(text)
 }
 
-/// The script that asks for these events. Events that no script can ask for are written all the same.
+/// The script that asks for these events; a plan that moves nothing reads as `Replace`. Events that no script can ask for are
+/// written all the same.
 pub fn write_log(alloc: Global, events: &[Event]) -> Result<Items<u8>, NoMemory>
     ensures text { IfOk result (λ text. text ≡ printed events.now) }
     ensures back { (image : Picture) → IsKept image → AreInRange image events.now → IfOk result (ReadsAs image events.now) }
+    ensures nothing_moved { (image : Picture) → IsKept image → AreInRange image (map as_read events.now) → IfOk result (ReadsAs image (map as_read events.now)) }
 {
     let text = text_of(alloc, events)?;
     Ok(Items::from_vec(text.into_bytes()))

@@ -1,5 +1,5 @@
 //! Scripts with what they are read as. What is wanted was told by an independent implementation, but for what this project alone has:
-//! commands that are to come, and two spaces and `/` in a plan.
+//! two spaces and `/` in a plan.
 
 use cases::images::image_of;
 use cases::orders::plan_text;
@@ -27,7 +27,13 @@ till 5|#end| => line 3 fault 5
 || => line 3 fault 5
 go| => line 1 fault 1
 End| => line 1 fault 1
-snap|end| => line 1 fault 1
+snap|end| => snap|end|
+snap|till 1|snap|end => snap|till 1|snap|end|
+snap 0|end => line 1 fault 1
+snap |end => line 1 fault 1
+Snap|end => line 1 fault 1
+snapshot|end => line 1 fault 1
+end|snap => line 2 fault 6
 retire|end| => retire|end|
 retire|till 1|retire|end => retire|till 1|retire|end|
 retire 0|end => line 1 fault 1
@@ -83,7 +89,8 @@ real 0 4|replace 1:2 1 0|till 100|end| => real 0 4|replace 1:2 1 0|till 100|end|
 #replace|replace 0:0||end|#replace => replace 0:0|end|
 till 2000000000|replace 0:0|end => till 2000000000|replace 0:0|end|
 replace 0:0 => line 2 fault 5
-replace|end => line 1 fault 1
+replace|end => replace|end|
+snap|replace|replace 0:0|replace|end => snap|replace|replace 0:0|replace|end|
 replace |end => line 1 fault 1
  replace 0:0|end => line 1 fault 1
 Replace 0:0|end => line 1 fault 1
@@ -152,7 +159,8 @@ end|replace 0:0| => line 2 fault 6
 end|replace 0:1| => line 2 fault 4
 end|replace 2:0| => line 2 fault 3
 end|replace 0:x| => line 2 fault 2
-end|replace| => line 2 fault 1
+end|replace| => line 2 fault 6
+end|replace | => line 2 fault 1
 till 2000000000|replace 0:0|till 1|end => line 3 fault 7
 till 2000000001|replace 0:|end => line 1 fault 7
 replace 0:0|replace 0:0|end => replace 0:0|replace 0:0|end|
@@ -232,6 +240,8 @@ fn event_text(alloc: Global, event: &Event) -> Result<String, AllocError> {
         Event::Steps { h, n } => format!(in alloc; "{n} steps of {h}"),
         Event::Real { h, n } => format!(in alloc; "{n} real steps of {h}"),
         Event::Till { n } => format!(in alloc; "{n} turns"),
+        Event::Snap => String::from_str(alloc, "snapshot"),
+        Event::Replace => String::from_str(alloc, "its plan"),
         Event::Given(plan) => plan_text(alloc, plan),
         Event::Retire => String::from_str(alloc, "retirement"),
     }
@@ -256,10 +266,10 @@ fn each_command_is_its_event(rt: HostRuntime) -> Result<(), Fail> {
     assert_eq!(rt;
         events_text(
             rt.alloc(),
-            "steps 1 2|real 3 4|till 5|replace 0:0; 1:2 0 1|retire|end|"
+            "steps 1 2|real 3 4|till 5|snap|replace|replace 0:0; 1:2 0 1|retire|end|"
         )?
         .as_str(),
-        "2 steps of 1, 4 real steps of 3, 5 turns, 0:0; 1:2 0 1, retirement, "
+        "2 steps of 1, 4 real steps of 3, 5 turns, snapshot, its plan, 0:0; 1:2 0 1, retirement, "
     );
     Ok(())
 }

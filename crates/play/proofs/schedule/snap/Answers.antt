@@ -1,0 +1,7 @@
+use Rattle.std.proofs.Common.{Result, Ok, Err}
+use Rattle.std.specs.Prelude.{OnOk}
+use Rattle.play.proofs.Attempted.{snaps_as}
+use Rattle.play.proofs.schedule.snap.Goals as goal
+
+pub returns : goal.returns
+returns c = snaps_as c.args.world.now c.snap.new.self c.snap.result c.snap.ensures.is
