@@ -15,7 +15,7 @@ in_tail x xs e h = (suc h.0, omega (arith, h.1), h.2)
 pub in_head : {X : Type 0} (x : X) (xs : List X) → Contains (x ∷ xs) x
 in_head x xs = (0, omega arith, refl)
 
-in_none : {X : Type 0} (e : X) → Contains [] e → ⊥
+pub in_none : {X : Type 0} (e : X) → Contains [] e → ⊥
 in_none e h = omega (arith, h.1)
 
 -- each of one is in the other
@@ -23,7 +23,7 @@ abbrev Within : {X : Type 0} → List X → List X → Type 0
 Within {X} xs ys = (e : X) → Contains xs e → Contains ys e
 
 module _ {X : Type 0} (R : X → X → Type 0) (asym : (x y : X) → R x y → R y x → ⊥) where
-  past_head : (x : X) (xs : List X) (e : X) → AllPairs R (x ∷ xs) → Contains xs e → R x e
+  pub past_head : (x : X) (xs : List X) (e : X) → AllPairs R (x ∷ xs) → Contains xs e → R x e
   past_head x xs e up h = subst (λ y. R x y) h.2 (up 0 (suc h.0) e (omega arith) (omega (arith, h.1)))
 
   heads : (x : X) (xs : List X) (y : X) (ys : List X) → AllPairs R (x ∷ xs) → AllPairs R (y ∷ ys) → Within (x ∷ xs) (y ∷ ys) → Within (y ∷ ys) (x ∷ xs) → x ≡ y

@@ -18,10 +18,10 @@ use Rattle.branch_ring.specs.Tallies.{pair_cmp, count_at, with_more, entry_of}
 use Rattle.branch_ring.proofs.Ascending.{split_at, in_head, in_tail}
 use Rattle.branch_ring.proofs.Tallied.{some_more}
 
-pair_total : IsTotalOrder pair_cmp
+pub pair_total : IsTotalOrder pair_cmp
 pair_total = then_total (on_total (λ (p : ℕ × ℕ). p.0) nat_cmp_total) (on_total (λ (p : ℕ × ℕ). p.1) nat_cmp_total)
 
-pair_exact : CmpEqualImpliesEq pair_cmp
+pub pair_exact : CmpEqualImpliesEq pair_cmp
 pair_exact = exact_pairs nat_cmp nat_cmp exact_unsigned exact_unsigned
 
 less_pair : (a b c d : ℕ) → ordering_then (nat_cmp a b) (nat_cmp c d) ≡ Less → (a < b) ⊎ ((a ≡ b) × (c < d))
@@ -39,7 +39,7 @@ less_pair a b c d e =
 abbrev first : (ℕ × ℕ) × ℕ → ℕ × ℕ
 first e = e.0
 
-rows_ascend : (m : BTreeMap (ℕ × ℕ) ℕ) (rows : List (ℕ × ℕ × ℕ)) → IsOrdered pair_cmp m → map entry_of rows ≡ m.entries → AllPairs Precedes (map counted rows)
+pub rows_ascend : (m : BTreeMap (ℕ × ℕ) ℕ) (rows : List (ℕ × ℕ × ℕ)) → IsOrdered pair_cmp m → map entry_of rows ≡ m.entries → AllPairs Precedes (map counted rows)
 rows_ascend m rows ordered is i j d l k =
     let row : ℕ × ℕ × ℕ = (d.from, d.to, d.count) in
     let within : j < length rows = rw length-map at k in
@@ -54,7 +54,7 @@ rows_ascend m rows ordered is i j d l k =
     let two : get_or (map counted rows) j d ≡ counted (get_or rows j row) = get_or-map counted rows j row d within in
     rw (one, two) (less_pair _ _ _ _ (rw (at_i, at_j) at less))
 
-from_map : {X Y : Type 0} (f : X → Y) (xs : List X) (e : Y) → Contains (map f xs) e → (x : X) × Contains xs x × (e ≡ f x)
+pub from_map : {X Y : Type 0} (f : X → Y) (xs : List X) (e : Y) → Contains (map f xs) e → (x : X) × Contains xs x × (e ≡ f x)
 from_map f [] e h = absurd (omega (arith, h.1))
 from_map f (x ∷ xs) e h =
     elim (split_at (f x) (map f xs) e h) [
@@ -62,7 +62,7 @@ from_map f (x ∷ xs) e h =
       | inr later ↦ (let k = from_map f xs e later in (k.0, in_tail x xs k.0 k.1, k.2))
     ]
 
-to_map : {X Y : Type 0} (f : X → Y) (xs : List X) (x : X) → Contains xs x → Contains (map f xs) (f x)
+pub to_map : {X Y : Type 0} (f : X → Y) (xs : List X) (x : X) → Contains xs x → Contains (map f xs) (f x)
 to_map f [] x h = absurd (omega (arith, h.1))
 to_map f (y ∷ ys) x h =
     elim (split_at y ys x h) [
@@ -70,18 +70,18 @@ to_map f (y ∷ ys) x h =
       | inr later ↦ in_tail (f y) (map f ys) (f x) (to_map f ys x later)
     ]
 
-abbrev entry : Counted → (ℕ × ℕ) × ℕ
+abbrev pub entry : Counted → (ℕ × ℕ) × ℕ
 entry c = ((c.from, c.to), c.count)
 
 abbrev as_counted : (ℕ × ℕ) × ℕ → Counted
 as_counted e = record { from = e.0.0; to = e.0.1; count = e.1 }
 
-to_entry : (rows : List (ℕ × ℕ × ℕ)) (c : Counted) → Contains (map counted rows) c → Contains (map entry_of rows) (entry c)
+pub to_entry : (rows : List (ℕ × ℕ × ℕ)) (c : Counted) → Contains (map counted rows) c → Contains (map entry_of rows) (entry c)
 to_entry rows c h =
     let k = from_map counted rows c h in
     subst (λ (z : Counted). Contains (map entry_of rows) (entry z)) (sym k.2) (to_map entry_of rows k.0 k.1)
 
-from_entry : (rows : List (ℕ × ℕ × ℕ)) (c : Counted) → Contains (map entry_of rows) (entry c) → Contains (map counted rows) c
+pub from_entry : (rows : List (ℕ × ℕ × ℕ)) (c : Counted) → Contains (map entry_of rows) (entry c) → Contains (map counted rows) c
 from_entry rows c h =
     let k = from_map entry_of rows (entry c) h in
     subst (λ (z : Counted). Contains (map counted rows) z) (sym (ap as_counted k.2)) (to_map counted rows k.0 k.1)

@@ -5,6 +5,6 @@ pub mod counted;
 pub mod laws;
 pub mod profile;
 pub mod ring;
-mod tally;
+pub mod tally;
 #[cfg(test)]
 mod tests;

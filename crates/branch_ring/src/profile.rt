@@ -40,6 +40,16 @@ impl Profile {
         }
     }
 
+    /// The profile with these rows. It takes no memory.
+    pub fn of(counts: Vec<(u64, u64, u64)>) -> Profile
+        requires { IsKept (map counted counts.items) }
+        ensures { result ≡ map counted counts.items }
+    {
+        Profile {
+            counts: Items::from_vec(counts),
+        }
+    }
+
     /// Where each pair comes from, where it goes, and how often it stands.
     pub fn counts(&self) -> &[(u64, u64, u64)]
         ensures { map counted result.now ≡ self.now }

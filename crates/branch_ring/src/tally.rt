@@ -10,7 +10,8 @@ use oc_base::fault::NoMemory;
 use std::alloc::Global;
 use std::collections::BTreeMap;
 
-type Tally = BTreeMap<(u64, u64), u64>;
+/// How often each pair was counted.
+pub type Tally = BTreeMap<(u64, u64), u64>;
 
 /// How often a pair was counted so far.
 #[tactic(auto, using(crate::proofs::Tallied::at_pair))]
@@ -52,7 +53,8 @@ fn tally_of(alloc: Global, rings: &[Ring]) -> Result<Tally, NoMemory>
     Ok(tally)
 }
 
-fn listed(alloc: Global, tally: &Tally) -> Result<Vec<(u64, u64, u64)>, NoMemory>
+/// The rows of the entries of a map.
+pub fn listed(alloc: Global, tally: &Tally) -> Result<Vec<(u64, u64, u64)>, NoMemory>
     ensures entries { IfOk result (λ v. map entry_of v.items ≡ tally.now.entries) }
     ensures ordered { IsOrdered pair_cmp tally.now }
 {

@@ -9,6 +9,7 @@ use Rattle.layout.specs.declared.point.Point.{Point}
 use Rattle.layout.specs.Laid.{Laid, IsLaid, item_at, point_in}
 use Rattle.layout.specs.Points.{Here, here_of, here_in, live_at}
 use Rattle.layout.specs.Alone.{NamesCalls}
+use Rattle.layout.specs.Apart.{LieApart}
 use Rattle.layout.proofs.Places.{item_within}
 use Rattle.patcher.specs.declared.goal.Goal.{Goal}
 use Rattle.patcher.specs.Goals.{goal_of, goal_at}

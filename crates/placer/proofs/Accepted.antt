@@ -1,7 +1,7 @@
 -- The plan of a profile has no fault, and is the only one.
-use Rattle.std.proofs.Common.{◌≡◌, ◌≢◌, ℕ, zero, suc, ◌+◌, ◌<◌, ◌≤◌, Bool, true, false, List, [], ◌∷◌, length, map, get_or, refl, sym, ap, subst, ◌∙◌, arith}
+use Rattle.std.proofs.Common.{◌≡◌, ◌≢◌, ℕ, zero, suc, ◌+◌, ◌<◌, ◌≤◌, Bool, true, false, List, [], ◌∷◌, ◌++◌, length, map, get_or, take, refl, sym, ap, subst, ◌∙◌, arith}
 use Rattle.std.specs.Prelude.{All, AllPairs, None, ◌↔◌}
-use Rattle.std.proofs.lemmas.List.{get_or-map, length-map}
+use Rattle.std.proofs.lemmas.List.{get_or-map, length-map, take_more}
 use Rattle.image.specs.Picture.{Picture}
 use Rattle.blocks.specs.declared.run.Block.{Block}
 use Rattle.blocks.specs.Blocks.{blocks_of, block_of, runs_of}
@@ -98,3 +98,11 @@ pub chosen_order : (p q : Picture) (profile : List Counted) (funcs order : List 
 chosen_order p q profile funcs order same is closest =
     let c : IsClosest (edge p.funcs profile) (count p.funcs profile) (chosen p profile) order = rw (is, same) at closest in
     rw same (all_there (edge p.funcs profile) (count p.funcs profile) p profile order c, all_readable (edge p.funcs profile) (count p.funcs profile) p profile order c)
+
+funcs_push : (parts : List Moved) (m : Moved) → map moved_func (parts ++ m ∷ []) ≡ map moved_func parts ++ m.func ∷ []
+funcs_push [] m = refl
+funcs_push (n ∷ parts) m = ap (λ (fs : List ℕ). n.func ∷ fs) (funcs_push parts m)
+
+-- one function more
+pub funcs_more : (parts : List Moved) (m : Moved) (funcs : List ℕ) (i : ℕ) → map moved_func parts ≡ take i funcs → m.func ≡ get_or funcs i 0 → i < length funcs → map moved_func (parts ++ m ∷ []) ≡ take (i + 1) funcs
+funcs_more parts m funcs i e h l = funcs_push parts m ∙ rw (e, h) (sym (take_more funcs i 0 l))

@@ -15,7 +15,12 @@ use Rattle.blocks.specs.Blocks.{block_of, blocks_of, runs_of}
 use Rattle.blocks.specs.Faults.{fault_of}
 use Rattle.blocks.specs.Sound.{IsRun, AreRuns, IsSound}
 use Rattle.blocks.proofs.Reading.{func_low}
+use Rattle.branch_ring.specs.declared.counted.Counted.{Counted}
+use Rattle.branch_ring.specs.Profiles.{Precedes}
 use Rattle.place_blocks.specs.Inputs.{AreBlocks}
+use Rattle.place_blocks.specs.Orders.{IsChain}
+use Rattle.placer.specs.Shares.{IsShare}
+use Rattle.placer.proofs.Shared.{AreInside, share_chain}
 
 module _ (texts : List TextRange) (f : Func) (runs : List Run) where
   run_some : (a b : ℕ) (falls : Bool) (ws : List Word) → IsRun texts f runs a ws b falls → a < b
@@ -45,6 +50,10 @@ module _ (texts : List TextRange) (f : Func) (runs : List Run) where
       let rest = few r.to b rs h.3 in
       omega (arith, some, rest, h.0)
 
+  ends : (a b : ℕ) (rs : List Run) → AreRuns texts f runs a rs b → All (λ c. c.range.to ≤ b) (map block_of rs)
+  ends a b [] h = All-nil (λ (c : Block). c.range.to ≤ b)
+  ends a b (r ∷ rs) h = All-cons (λ (c : Block). c.range.to ≤ b) (block_of r) (map block_of rs) (let rest = few r.to b rs h.3 in omega arith) (ends r.to b rs h.3)
+
 pub are_blocks : (texts : List TextRange) (f : Func) (runs : List Run) → All IsText texts → IsFunc texts f → IsSound texts f runs → AreBlocks (map block_of runs)
 are_blocks texts f runs fit is sound =
     let most = few texts f runs f.from f.to runs sound.words in
@@ -67,3 +76,22 @@ readable_blocks p n blocks kept there none sound is =
           rw same (are_blocks p.texts f (runs_of p n) kept.texts_fit fits (sound f found)))
       | inr (past, missing) ↦ absurd (omega (arith, past, there))
     ]
+
+lie_inside : (texts : List TextRange) (f : Func) (runs : List Run) → IsSound texts f runs → AreInside f (map block_of runs)
+lie_inside texts f runs sound =
+    record {
+      low = above texts f runs f.from f.to runs sound.words;
+      high = ends texts f runs f.from f.to runs sound.words;
+      filled = filled texts f runs f.from f.to runs sound.words;
+    }
+
+-- the order of a readable function's blocks for its share of a profile is that for the profile
+pub part_chain : (p : Picture) (n : ℕ) (f : Func) (blocks : List Block) (part profile : List Counted) (order : List ℕ) → fault_of p n ≡ None
+    → ((g : Func) → slice_get p.funcs n ≡ Some g → IsSound p.texts g (runs_of p n)) → Some blocks ≡ (if is_none (fault_of p n) then Some (blocks_of p n) else None) → slice_get p.funcs n ≡ Some f
+    → AllPairs Precedes profile → IsShare f profile part → IsChain blocks part order → IsChain (blocks_of p n) profile order
+unfolding blocks_of
+part_chain p n f blocks part profile order none sound is found up s h =
+    let readable : Some blocks ≡ Some (map block_of (runs_of p n)) = is ∙ rw none refl in
+    let same : blocks ≡ map block_of (runs_of p n) = cc in
+    let inside : AreInside f (map block_of (runs_of p n)) = lie_inside p.texts f (runs_of p n) (sound f found) in
+    share_chain f (map block_of (runs_of p n)) inside part profile up s order (subst (λ (bs : List Block). IsChain bs part order) same h)

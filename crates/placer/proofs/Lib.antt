@@ -2,7 +2,9 @@ pub mod Accepted
 pub mod Chained
 pub mod Chosen
 pub mod Cut
+pub mod Gathered
 pub mod Grouped
 pub mod Ordered
+pub mod Shared
 pub mod Sources
 pub mod Totals

@@ -1,27 +1,17 @@
 //! The functions that a profile moves.
 
-ghost use Rattle.std.specs.Prelude.{◌≡◌, ◌<◌, ◌≤◌, length, IfOk};
-ghost use Rattle.std.specs.List.{AllWithin, list_any};
-ghost use Rattle.std.specs.List.Sorted.{IsNonDecreasingBy};
+ghost use Rattle.std.specs.Prelude.{◌≡◌, ◌<◌, length, IfOk};
+ghost use Rattle.std.specs.List.{list_any};
 ghost use Rattle.image.specs.Aims.{is_inside};
-ghost use Rattle.placer.specs.Chosen.{chosen, is_chosen, row_from};
+ghost use Rattle.placer.specs.Chosen.{chosen, is_chosen};
 
 use crate::blocks_of::blocks_of;
+use crate::rows::rows_below;
 use blocks::index::FuncIndex;
 use branch_ring::profile::Profile;
 use image::ranges::Func;
 use oc_base::fault::NoMemory;
 use std::alloc::Global;
-
-/// How many rows come from an address below one.
-fn rows_below(rows: &[(u64, u64, u64)], from: u64) -> usize
-    requires { IsNonDecreasingBy row_from rows.now }
-    ensures within { result ≤ length rows.now }
-    ensures below { AllWithin (λ row. row_from row < from) rows.now 0 result }
-    ensures others { AllWithin (λ row. from ≤ row_from row) rows.now result (length rows.now) }
-{
-    rows.partition_point(|row| row.0 < from)
-}
 
 /// Whether some pair comes from a function.
 fn has_source(profile: &Profile, f: &Func) -> bool

@@ -6,3 +6,5 @@ mod choose;
 pub mod laws;
 mod parts;
 pub mod plan;
+mod rows;
+mod share;

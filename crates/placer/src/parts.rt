@@ -1,34 +1,57 @@
 //! Functions with their blocks in order.
 
-ghost use Rattle.std.specs.Prelude.{◌≡◌, ◌<◌, length, map, All, None, IfOk};
+ghost use Rattle.std.specs.Prelude.{◌≡◌, ◌<◌, length, slice_get, map, All, Some, None, IfOk};
 ghost use Rattle.blocks.specs.Blocks.{blocks_of};
 ghost use Rattle.blocks.specs.Faults.{fault_of};
 ghost use Rattle.plans.specs.Plans.{moved_func};
+ghost use Rattle.branch_ring.specs.Profiles.{counted, IsKept};
 ghost use Rattle.place_blocks.specs.Orders.{IsChain};
+ghost use Rattle.placer.specs.Shares.{AreTargets};
 
 use crate::blocks_of::blocks_of;
+use crate::rows::{Row, by_target};
+use crate::share::share;
 use blocks::index::FuncIndex;
 use blocks::laws::sound_blocks;
 use branch_ring::profile::Profile;
+use image::ranges::Func;
 use oc_base::fault::NoMemory;
 use oc_base::items::Items;
 use place_blocks::chain::chain;
 use plans::plan::Moved;
 use std::alloc::Global;
 
+/// A function by its number.
+fn function(index: &FuncIndex, f: u32) -> Func
+    requires { f < length index.now.image.now.funcs }
+    ensures { slice_get index.now.image.now.funcs f ≡ Some result }
+{
+    index.image.funcs()[f as usize]
+}
+
 /// A function with its blocks in chains.
-fn part(alloc: Global, index: &FuncIndex, profile: &Profile, f: u32) -> Result<Moved, NoMemory>
+fn part(
+    alloc: Global,
+    index: &FuncIndex,
+    rows: &[Row],
+    targets: &[Row],
+    f: u32,
+) -> Result<Moved, NoMemory>
     requires there { f < length index.now.image.now.funcs }
     requires readable { fault_of index.now.image.now f ≡ None }
+    requires kept { IsKept (map counted rows.now) }
+    requires targets { AreTargets rows.now targets.now }
     ensures func { IfOk result (λ m. m.func ≡ f) }
-    ensures order { IfOk result (λ m. IsChain (blocks_of index.now.image.now f) profile.now m.order) }
+    ensures order { IfOk result (λ m. IsChain (blocks_of index.now.image.now m.func) (map counted rows.now) m.order) }
 {
     sound_blocks();
     index.image.kept();
     let Some(blocks) = blocks_of(alloc, index, f)? else {
         unreachable!()
     };
-    let order = chain(alloc, &blocks, profile)?;
+    let func = function(index, f);
+    let own = share(alloc, rows, targets, &func)?;
+    let order = chain(alloc, &blocks, &own)?;
     Ok(Moved {
         func: f,
         order: Items::from_vec(order),
@@ -47,9 +70,12 @@ pub fn parts(
     ensures funcs { IfOk result (λ parts. map moved_func parts.items ≡ funcs.now) }
     ensures orders { IfOk result (λ parts. All (λ m. IsChain (blocks_of index.now.image.now m.func) profile.now m.order) parts.items) }
 {
+    profile.kept();
+    let rows = profile.counts();
+    let targets = by_target(alloc, rows)?;
     let mut parts = Vec::with_capacity(alloc, funcs.len())?;
     for f in funcs {
-        let moved = part(alloc, index, profile, *f)?;
+        let moved = part(alloc, index, rows, &targets, *f)?;
         parts.push(moved)?;
     }
     Ok(parts)

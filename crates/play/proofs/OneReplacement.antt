@@ -13,6 +13,7 @@ use Rattle.plans.specs.declared.plan.Moved.{Moved}
 use Rattle.layout.specs.declared.point.Point.{Point}
 use Rattle.layout.specs.declared.point.Point.TheVariants.{Start, Hop, Mid}
 use Rattle.layout.specs.Laid.{Laid, IsLaid, item_at, point_in}
+use Rattle.layout.specs.Apart.{LieApart}
 use Rattle.layout.proofs.Places.{item_here, item_within}
 use Rattle.emit.specs.Entries.{entries_of}
 use Rattle.emit.specs.Emitted.{IsMadeOf}
@@ -23,7 +24,7 @@ use Rattle.emit.specs.declared.entry.Made.TheVariants.{Same, Jump, Branch, High,
 use Rattle.patcher.specs.declared.goal.Goal.{Goal}
 use Rattle.patcher.specs.declared.goal.Goal.TheVariants as goal
 use Rattle.patcher.specs.Goals.{goal_of, goal_at, goal_in, site_goal, start_in, IsMade}
-use Rattle.patcher.specs.Patched.{IsSet, IsPatchedText, IsPatchedLayout, ArePatched, LieApart, joined}
+use Rattle.patcher.specs.Patched.{IsSet, IsPatchedText, IsPatchedLayout, ArePatched, joined}
 use Rattle.patcher.specs.Reach as reach
 use Rattle.patcher.specs.Texts.{text_span, AreTexts}
 use Rattle.patcher.proofs.Spans.{are_texts}

@@ -8,11 +8,10 @@ use Rattle.std.proofs.lemmas.List.Elements.{recursion_from_All, All-from_recursi
 use Rattle.std.proofs.lemmas.List.Folds.{list_any-append, list_any_at}
 use Rattle.oc_base.specs.declared.range.Range.{Range}
 use Rattle.layout.specs.Laid.{Laid}
+use Rattle.layout.specs.Apart.{LieApart, covers}
 use Rattle.layout.specs.Points.{in_range}
-use Rattle.patcher.specs.Patched.{LieApart}
 use Rattle.region.specs.Free.{Rises, AreFree, is_free, range, piece, without, taken}
 use Rattle.region.proofs.Taking.{took, taken_addresses, taken_none, none_addresses}
-use Rattle.world.specs.Worlds.{covers}
 
 abbrev pub AreWhole : List Range → Type 0
 AreWhole rs = AllByRecursion (λ r. r.from % 4 ≡ 0) rs

@@ -10,11 +10,10 @@ use Rattle.image.specs.Picture.{Picture}
 use Rattle.layout.specs.declared.point.Point.{Point}
 use Rattle.layout.specs.declared.point.Point.TheVariants.{Start}
 use Rattle.layout.specs.Laid.{Laid}
+use Rattle.layout.specs.Apart.{LieApart, Covers, LiesIn}
 use Rattle.layout.specs.Points.{Code, Here, here_home, here_word, here_point, here_in, live_at, in_range}
-use Rattle.patcher.specs.Patched.{LieApart}
 use Rattle.patcher.proofs.Joined.{here_back, here_bounds, live_first, live_later, live_nothing}
-use Rattle.retire.specs.References.{Covers, LiesIn}
-use Rattle.retire.proofs.Places.{are_apart, from_there, same_place}
+use Rattle.layout.proofs.Apart.{are_apart, from_there, same_place}
 use Rattle.sim_laws.specs.Changes.{GivesUp}
 use Rattle.world.specs.Worlds.{code_in}
 use Rattle.world.specs.Retiring.{without}

@@ -1,6 +1,7 @@
 pub mod Counting
 pub mod Fitting
 pub mod Following
+pub mod Found
 pub mod FreeRanges
 pub mod GivenUp
 pub mod Held

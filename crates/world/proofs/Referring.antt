@@ -17,19 +17,19 @@ use Rattle.image.specs.Picture.{Picture}
 use Rattle.layout.specs.declared.point.Point.{Point}
 use Rattle.layout.specs.declared.point.Point.TheVariants.{Start}
 use Rattle.layout.specs.Laid.{Laid, item_at, point_in}
+use Rattle.layout.specs.Apart.{LieApart, Covers, LiesIn}
 use Rattle.layout.specs.Points.{Code, Here, here_word, here_point, here_in, live_at, in_range, read, aim_func, site_of, second_of, start_of}
 use Rattle.layout.specs.Rows.{GoesTo, CallsAim, Renders}
 use Rattle.layout.specs.Alone.{NamesCalls, called_at}
 use Rattle.layout.proofs.CallWords.{bound, site_listed, second_listed}
 use Rattle.layout.proofs.TextRows.{read_same}
-use Rattle.patcher.specs.Patched.{LieApart}
 use Rattle.patcher.proofs.Joined.{here_back}
-use Rattle.retire.specs.References.{Covers, LiesIn, PointInto, jump_of, aim_of, aims_of, CallsInto, Refers, by_pointer, by_call}
-use Rattle.retire.proofs.Places.{from_there}
+use Rattle.retire.specs.References.{PointInto, jump_of, aim_of, aims_of, CallsInto, Refers, by_pointer, by_call, AreUnreferenced}
+use Rattle.layout.proofs.Apart.{from_there}
 use Rattle.machine.specs.States.{State}
 use Rattle.sim_laws.specs.Changes.{IsPointer, GivesUp, StaysClear, LeavesCalls, LeavesPointers}
 use Rattle.world.specs.Worlds.{code_in}
-use Rattle.world.specs.Retiring.{pcs_of, links_held, text_aim, text_aims, AreUnreferenced, without}
+use Rattle.world.specs.Retiring.{pcs_of, links_held, text_aim, text_aims, without}
 use Rattle.world.proofs.LeftOver.{Climbs, climbs}
 use Rattle.world.proofs.GivenUp.{Stands, stands, lies_in, one_place, gone_at, gives_up, Lost, lost_at, not_lost, still}
 use Rattle.world.proofs.Held.{in_chosen, pointer_held}
@@ -51,7 +51,7 @@ within_all lives held gone u i d lt = ((u.exact (get_or gone i d)).0 (Contains-g
 module _ (p : Picture) (text : List TextRange) (lives : List Laid) (gone : List ℕ) (held : List ℕ) (u : AreUnreferenced lives held gone)
     (some : All (λ (l : Laid). 0 < length l.words) lives) (apart : AllPairs LieApart lives) where
   abbrev pub gone_from : ℕ → Bool
-  gone_from = gone_at p text lives gone (climbs gone u.rises) (within_all lives held gone u) some apart
+  gone_from = gone_at p text lives gone (climbs gone u.ascending) (within_all lives held gone u) some apart
 
   -- to what is referred isn't given up
   not_gone : (k : ℕ) → Refers lives held k → Contains gone k → ⊥
@@ -66,7 +66,7 @@ module _ (p : Picture) (text : List TextRange) (lives : List Laid) (gone : List 
     where
       is_not : gone_from a ≡ true → ⊥
       is_not e =
-          let l = lost_at p text lives gone (climbs gone u.rises) (within_all lives held gone u) some apart a e in
+          let l = lost_at p text lives gone (climbs gone u.ascending) (within_all lives held gone u) some apart a e in
           let s = l.stood in
           l.lost (not_gone s.place (by_pointer s.place (any_of (λ x. LiesIn lives x s.place) held a c (lies_in lives a l.is s))))
 
@@ -75,13 +75,13 @@ module _ (p : Picture) (text : List TextRange) (lives : List Laid) (gone : List 
   inside_clear a t h s r e c = by_bool (gone_from t) (gone_from t) refl is_not
     where
       left : Contains gone s.place → ⊥
-      left = not_lost p text lives gone (climbs gone u.rises) (within_all lives held gone u) some apart a h s r e
+      left = not_lost p text lives gone (climbs gone u.ascending) (within_all lives held gone u) some apart a h s r e
 
       is_not : gone_from t ≡ true → ⊥
       is_not g = by_same
         where
-          l : Lost p text lives gone (climbs gone u.rises) (within_all lives held gone u) some apart t
-          l = lost_at p text lives gone (climbs gone u.rises) (within_all lives held gone u) some apart t g
+          l : Lost p text lives gone (climbs gone u.ascending) (within_all lives held gone u) some apart t
+          l = lost_at p text lives gone (climbs gone u.ascending) (within_all lives held gone u) some apart t g
 
           itself : s.place ≡ l.stood.place → ⊥
           itself same = l.lost (subst (λ k. Contains gone k → ⊥) same left)

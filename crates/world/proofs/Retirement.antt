@@ -11,18 +11,19 @@ use Rattle.image.specs.Targets.{target}
 use Rattle.image.specs.Picture.{Picture, IsKept}
 use Rattle.layout.specs.declared.point.Point.TheVariants.{Start}
 use Rattle.layout.specs.Laid.{Laid, IsLaid}
+use Rattle.layout.specs.Apart.{LieApart, covers}
 use Rattle.layout.specs.Points.{in_range}
 use Rattle.layout.specs.Rows.{GoesTo, CallsAim}
 use Rattle.layout.proofs.TextRows.{read_same}
 use Rattle.layout.specs.Alone.{InRegion, NamesCalls}
 use Rattle.machine.specs.States.{State}
-use Rattle.patcher.specs.Patched.{LieApart}
+use Rattle.retire.specs.References.{AreUnreferenced}
 use Rattle.sim_laws.specs.Codes.{GoesToWord}
 use Rattle.sim_laws.specs.Changes.{GivesUp, StaysClear, LeavesCalls, LeavesPointers}
 use Rattle.sim_laws.proofs.GivingUp.{renders_on, pointers_on}
 use Rattle.sim_laws.proofs.Change.{kept_by_change}
-use Rattle.world.specs.Worlds.{Replaced, code_in, code_of, covers, IsSound, IsWorld, Related}
-use Rattle.world.specs.Retiring.{text_aims, pcs_of, links_held, held_by, AreUnreferenced, without, range_of, freed, given_back, AreSpread, IsRetired, RetiresAs, Retires, over, done, LeadsToCode}
+use Rattle.world.specs.Worlds.{Replaced, code_in, code_of, IsSound, IsWorld, Related}
+use Rattle.world.specs.Retiring.{text_aims, pcs_of, links_held, held_by, without, range_of, freed, given_back, AreSpread, IsRetired, RetiresAs, Retires, over, done, LeadsToCode}
 use Rattle.world.proofs.LeftOver.{climbs, all_without, lengths_without, at_most}
 use Rattle.world.proofs.Spread.{few}
 use Rattle.world.proofs.OneByOne.{spread_left}
@@ -62,10 +63,10 @@ spread_of p text lives numbers free s = record {
 module _ (p : Picture) (text : List TextRange) (lives : List Laid) (numbers : List ℕ) (free : List Range) (held gone : List ℕ)
     (s : IsSound p text lives numbers free) (u : AreUnreferenced lives held gone) (aims : (t : ℕ) → Contains (text_aims p text) t → Contains held t) where
   abbrev pub gone_now : ℕ → Bool
-  gone_now = gone_at p text lives gone (climbs gone u.rises) (within_all lives held gone u) s.some s.apart
+  gone_now = gone_at p text lives gone (climbs gone u.ascending) (within_all lives held gone u) s.some s.apart
 
   pub given_up : GivesUp gone_now (code_in p text lives) (code_in p text (without gone lives))
-  given_up = gives_up p text lives gone (climbs gone u.rises) (within_all lives held gone u) s.some s.apart
+  given_up = gives_up p text lives gone (climbs gone u.ascending) (within_all lives held gone u) s.some s.apart
 
   calls_left : LeavesCalls gone_now (code_in p text lives)
   calls_left = leaves_calls p text lives gone held u s.some s.apart s.placed.calls aims
@@ -108,7 +109,7 @@ module _ (p : Picture) (text : List TextRange) (lives : List Laid) (numbers : Li
 
   pub sound_left : IsSound p text (without gone lives) (without gone numbers) (freed gone lives free)
   sound_left =
-      let c = climbs gone u.rises in
+      let c = climbs gone u.ascending in
       let w = within_all lives held gone u in
       let spread = spread_left p.region lives free gone c w (spread_of p text lives numbers free s) in
       record {
@@ -142,7 +143,7 @@ gone_sound w v gone e u s =
 pub few_gone : (w : Replaced) (gone : List ℕ) → AreUnreferenced w.lives (held_by w) gone → IsWorld w → length gone < 2 ^ 32
 few_gone w gone u s =
     let all = few w.image.region w.lives w.free (spread_of w.image w.text w.lives w.numbers w.free s) in
-    let most = at_most (length w.lives) gone (climbs gone u.rises) (within_all w.lives (held_by w) gone u) in
+    let most = at_most (length w.lives) gone (climbs gone u.ascending) (within_all w.lives (held_by w) gone u) in
     omega (arith, all, most)
 
 pub same_unreferenced : (lives ls : List Laid) (held hs gone : List ℕ) → ls ≡ lives → hs ≡ held → AreUnreferenced ls hs gone → AreUnreferenced lives held gone

@@ -8,16 +8,17 @@ use Rattle.oc_base.specs.declared.range.Range.{Range}
 use Rattle.image.specs.declared.ranges.TextRange.{TextRange}
 use Rattle.image.specs.Picture.{Picture}
 use Rattle.layout.specs.Laid.{Laid, IsLaid}
+use Rattle.layout.specs.Apart.{LieApart, covers}
 use Rattle.layout.specs.Points.{in_range}
 use Rattle.layout.specs.Rows.{CallsAim}
 use Rattle.layout.specs.Alone.{alone, InRegion, NamesCalls}
-use Rattle.patcher.specs.Patched.{LieApart, CanJoin, IsPlaced, IsPatchedText, IsPatchedLayout, ArePatched, joined}
+use Rattle.patcher.specs.Patched.{CanJoin, IsPlaced, IsPatchedText, IsPatchedLayout, ArePatched, joined}
 use Rattle.patcher.proofs.Joined.{patched_length, patched_at, all_patched, laid_all, names_all}
 use Rattle.patcher.proofs.Keeps.{renders_on, calls_aim, all_joined}
 use Rattle.region.specs.Free.{Rises, is_free}
 use Rattle.sim_laws.specs.Codes.{GoesToWord}
 use Rattle.world.specs.declared.counts.Counts.{Counts}
-use Rattle.world.specs.Worlds.{code_in, covers, more, IsSound}
+use Rattle.world.specs.Worlds.{code_in, more, IsSound}
 use Rattle.world.specs.Replacing.{IsFit, numbered, left_by}
 use Rattle.world.proofs.FreeRanges.{taken_whole, rest_more, left_rises, left_addresses, apart_from_lives}
 

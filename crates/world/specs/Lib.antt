@@ -1,4 +1,5 @@
 pub mod Fetching
+pub mod Finding
 pub mod Records
 pub mod Replacing
 pub mod Retiring

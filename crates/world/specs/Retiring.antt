@@ -15,14 +15,14 @@ use Rattle.link_tags.specs.Values.{is_link}
 use Rattle.guest_mem.specs.Access.{links_of}
 use Rattle.hart.specs.declared.hart.Hart.{Hart}
 use Rattle.layout.specs.Laid.{Laid, IsLaid}
+use Rattle.layout.specs.Apart.{LieApart, covers}
 use Rattle.layout.specs.Points.{Code, read, in_range}
 use Rattle.machine.specs.Harts.{has_ended}
 use Rattle.machine.specs.States.{State}
-use Rattle.patcher.specs.Patched.{LieApart}
 use Rattle.region.specs.Free.{Rises, is_free, range, given}
-use Rattle.retire.specs.References.{jump_of, Refers}
+use Rattle.retire.specs.References.{jump_of, AreUnreferenced}
 use Rattle.sim_laws.specs.Changes.{IsPointer}
-use Rattle.world.specs.Worlds.{Replaced, covers}
+use Rattle.world.specs.Worlds.{Replaced}
 
 -- ---- what refers to layouts from outside
 -- of a hart that goes on its pc, and the numbers of the links in its registers; x0 holds none
@@ -53,11 +53,6 @@ abbrev pub held_by : Replaced → List ℕ
 held_by w = pcs_of w.machine.harts ++ links_held w.machine ++ text_aims w.image w.text
 
 -- ---- what is given up
--- Exactly these positions, ascending, are those of layouts that nothing refers to.
-pub record AreUnreferenced (lives : List Laid) (held : List ℕ) (gone : List ℕ) : Type 0 where
-  pub rises : AllPairs (λ j k. j < k) gone
-  pub exact : (k : ℕ) → Contains gone k ↔ ((k < length lives) × (Refers lives held k → ⊥))
-
 -- a list without its elements at these positions, which ascend
 abbrev pub without : {A : Type 0} → List ℕ → List A → List A
 without [] xs = xs

@@ -15,9 +15,10 @@ use Rattle.layout.specs.Rows.{CallsAim}
 use Rattle.layout.specs.Alone.{InRegion}
 use Rattle.branch_ring.specs.declared.counted.Counted.{Counted}
 use Rattle.branch_ring.specs.Rings.{Notes}
+use Rattle.layout.specs.Apart.{LieApart, covers}
 use Rattle.machine.specs.Start.{start_of}
 use Rattle.machine.specs.States.{State}
-use Rattle.patcher.specs.Patched.{LieApart, IsPlaced}
+use Rattle.patcher.specs.Patched.{IsPlaced}
 use Rattle.region.specs.Free.{Rises, is_free, piece}
 use Rattle.sched_log.specs.declared.facts.Refused.{Refused}
 use Rattle.sim_laws.specs.declared.stepped.Stepped.{Stepped}
@@ -58,9 +59,6 @@ abbrev pub point_at : Range → List Laid → ℕ → Option Point
 point_at r lives a = if in_range r a then option_map here_point (live_at lives a) else Some (Start a)
 
 -- ---- what its code always keeps
-abbrev pub covers : ℕ → Laid → Bool
-covers a l = nat_le l.base a && nat_lt a (l.base + 4 * length l.words)
-
 pub record IsSound (p : Picture) (text : List TextRange) (lives : List Laid) (numbers : List ℕ) (free : List Range) : Type 0 where
   pub kept : IsKept p
   -- text and layouts render the image, and the lists of each layout are those of its calls

@@ -12,12 +12,12 @@ ghost use Rattle.sim_laws.specs.Origins.{origin};
 ghost use Rattle.sim_laws.specs.Steps.{replaced_step, replaced_transfer, stepped, is_layout};
 ghost use Rattle.world.specs.Runs.{is_over};
 ghost use Rattle.world.specs.Worlds.{code_in};
+ghost use Rattle.world.specs.Finding.{AreFound};
 ghost use Rattle.world.specs.Fetching.{both, word_as, is_address, fetched_as, fetched_of, fetched_at, word_of, is_layout_fetch, led_by};
 
-use crate::points::{Points, is_in, live_both};
+use crate::points::{Lives, Points, is_in, live_both};
 use image::picture::Image;
 use image::targets::{made_by, target};
-use layout::layout::Layout;
 use layout::point::Point;
 use link_tags::value::Value;
 use machine::machine::Machine;
@@ -74,8 +74,9 @@ fn fetched_as(word: u32, point: Point) -> Fetched
 /// What is fetched in the region.
 // kept out of the loops of steps, in which most words come from text
 #[inline(never)]
-fn live_fetched(lives: &[Layout], at: u64) -> Fetched
-    ensures { result ≡ fetched_of (option_map both (live_at lives.now at)) }
+fn live_fetched(lives: &Lives, at: u64) -> Fetched
+    requires { AreFound lives.now }
+    ensures { result ≡ fetched_of (option_map both (live_at lives.now.layouts.items at)) }
 {
     match live_both(lives, at) {
         Some((word, point)) => fetched_as(word, point),
@@ -95,9 +96,10 @@ fn word_as(word: Option<u32>) -> Fetched
 /// What is fetched at an address.
 #[inline(always)]
 #[tactic(auto, using(crate::proofs::Fetching::fetched_in_region, crate::proofs::Fetching::fetched_in_text))]
-fn fetch(image: &Image, text: &TextNow, lives: &[Layout], at: u64) -> Fetched
-    requires { Renders (code_in image.now text.now lives.now) }
-    ensures { result ≡ fetched_at (code_in image.now text.now lives.now) at }
+fn fetch(image: &Image, text: &TextNow, lives: &Lives, at: u64) -> Fetched
+    requires renders { Renders (code_in image.now text.now lives.now.layouts.items) }
+    requires found { AreFound lives.now }
+    ensures { result ≡ fetched_at (code_in image.now text.now lives.now.layouts.items) at }
 {
     image.kept();
     if is_in(image.region(), at) {
@@ -128,14 +130,15 @@ fn step_live(
     machine: &mut Machine,
     image: &Image,
     text: &TextNow,
-    lives: &[Layout],
+    lives: &Lives,
     h: u32,
     word: Option<u32>,
 ) -> Result<Option<(u64, u64)>, NoMemory>
+    requires found { AreFound lives.now }
     requires can { can_step h machine.old ≡ true }
-    requires word { word ≡ (code_in image.now text.now lives.now).word (hart_in machine.old.harts h).pc }
-    ensures ok { OnOk result (machine.new ≡ replaced_step image.now (code_in image.now text.now lives.now) h machine.old) }
-    ensures transfer { IfOk result (λ made. made ≡ transfer_with (code_in image.now text.now lives.now).word (origin (code_in image.now text.now lives.now)) image.now h machine.old) }
+    requires word { word ≡ (code_in image.now text.now lives.now.layouts.items).word (hart_in machine.old.harts h).pc }
+    ensures ok { OnOk result (machine.new ≡ replaced_step image.now (code_in image.now text.now lives.now.layouts.items) h machine.old) }
+    ensures transfer { IfOk result (λ made. made ≡ transfer_with (code_in image.now text.now lives.now.layouts.items).word (origin (code_in image.now text.now lives.now.layouts.items)) image.now h machine.old) }
     ensures err { OnErr result (machine.new ≡ machine.old) }
 {
     let _ = text;
@@ -163,13 +166,14 @@ pub fn other_step_in(
     machine: &mut Machine,
     image: &Image,
     text: &TextNow,
-    lives: &[Layout],
+    lives: &Lives,
     h: u32,
 ) -> Result<Made, NoMemory>
-    requires { Renders (code_in image.now text.now lives.now) }
-    ensures kind { IfOk result (λ made. made.kind ≡ stepped (code_in image.now text.now lives.now) h machine.old) }
-    ensures transfer { IfOk result (λ made. made.transfer ≡ replaced_transfer image.now (code_in image.now text.now lives.now) h machine.old) }
-    ensures step { OnOk result (machine.new ≡ (if is_layout (stepped (code_in image.now text.now lives.now) h machine.old) then machine.old else replaced_step image.now (code_in image.now text.now lives.now) h machine.old)) }
+    requires renders { Renders (code_in image.now text.now lives.now.layouts.items) }
+    requires found { AreFound lives.now }
+    ensures kind { IfOk result (λ made. made.kind ≡ stepped (code_in image.now text.now lives.now.layouts.items) h machine.old) }
+    ensures transfer { IfOk result (λ made. made.transfer ≡ replaced_transfer image.now (code_in image.now text.now lives.now.layouts.items) h machine.old) }
+    ensures step { OnOk result (machine.new ≡ (if is_layout (stepped (code_in image.now text.now lives.now.layouts.items) h machine.old) then machine.old else replaced_step image.now (code_in image.now text.now lives.now.layouts.items) h machine.old)) }
     ensures err { OnErr result (machine.new ≡ machine.old) }
 {
     if machine.outcome().is_some() {

@@ -9,8 +9,10 @@ ghost use Rattle.patcher.specs.Patched.{ArePatches};
 ghost use Rattle.patcher.specs.Reach.{AllReach};
 ghost use Rattle.image.specs.declared.ranges.TextRange.{TextRange as TextData};
 ghost use Rattle.world.specs.Worlds.{code_in};
+ghost use Rattle.world.specs.Finding.{AreFound};
 ghost use Rattle.world.specs.Replacing.{is_no_memory, told_as, IsNew, Refuses, ReachRefuses, IsFit, IsPlacement, slots_sent};
 
+use crate::points::Lives;
 use crate::slots::slots_sent;
 use emit::draft::Draft;
 use emit::fault::EmitFault;
@@ -142,18 +144,19 @@ fn aimed(
     alloc: Global,
     image: &Image,
     machine: &Machine,
-    lives: &[Layout],
+    lives: &Lives,
     new: Option<Layout>,
 ) -> Result<Placement, Refusal>
-    requires { All (NamesCalls image.now) lives.now }
+    requires calls { All (NamesCalls image.now) lives.now.layouts.items }
+    requires found { AreFound lives.now }
     ensures layout { IfOk result (λ q. q.layout ≡ new) }
-    ensures is { IfOk result (λ q. ArePatches image.now new lives.now q.patches) }
-    ensures reach { OnOk result (AllReach image.now new lives.now) }
+    ensures is { IfOk result (λ q. ArePatches image.now new lives.now.layouts.items q.patches) }
+    ensures reach { OnOk result (AllReach image.now new lives.now.layouts.items) }
     ensures short { IfOk result (λ q. All (λ s. s.word < 2 ^ 32) q.patches.text) }
-    ensures slots { (text : List TextData) → IfOk result (λ q. q.slots.items ≡ slots_sent image.now (code_in image.now text lives.now) new machine.now.memory) }
-    ensures refused { IfErr result (ReachRefuses image.now new lives.now) }
+    ensures slots { (text : List TextData) → IfOk result (λ q. q.slots.items ≡ slots_sent image.now (code_in image.now text lives.now.layouts.items) new machine.now.memory) }
+    ensures refused { IfErr result (ReachRefuses image.now new lives.now.layouts.items) }
 {
-    let patches = match work_out(alloc, image, lives, new.as_ref()) {
+    let patches = match work_out(alloc, image, &lives.layouts, new.as_ref()) {
         Ok(patches) => patches,
         Err(ReachFault::BranchReach { at, target }) => return Err(Refusal::BranchReach {
             at,
@@ -178,16 +181,17 @@ pub fn place(
     image: &Image,
     region: &Region,
     machine: &Machine,
-    lives: &[Layout],
+    lives: &Lives,
     plan: &Plan,
 ) -> Result<Placement, Refusal>
     requires plan { plan_fault image.now plan.now ≡ None }
-    requires calls { All (NamesCalls image.now) lives.now }
+    requires calls { All (NamesCalls image.now) lives.now.layouts.items }
+    requires found { AreFound lives.now }
     requires all { region.now.all ≡ image.now.region }
     requires whole { All (λ r. r.from % 4 ≡ 0) region.now.free }
-    ensures is { IfOk result (λ q. IsPlacement image.now lives.now region.now.free plan.now q.layout q.patches) }
-    ensures slots { (text : List TextData) → IfOk result (λ q. q.slots.items ≡ slots_sent image.now (code_in image.now text lives.now) q.layout machine.now.memory) }
-    ensures refused { IfErr result (Refuses image.now lives.now region.now.free plan.now) }
+    ensures is { IfOk result (λ q. IsPlacement image.now lives.now.layouts.items region.now.free plan.now q.layout q.patches) }
+    ensures slots { (text : List TextData) → IfOk result (λ q. q.slots.items ≡ slots_sent image.now (code_in image.now text lives.now.layouts.items) q.layout machine.now.memory) }
+    ensures refused { IfErr result (Refuses image.now lives.now.layouts.items region.now.free plan.now) }
 {
     let new = match new_layout(alloc, image, region, plan) {
         Ok(new) => new,

@@ -1,15 +1,53 @@
 //! What stands at an address of the live layouts.
 
-ghost use Rattle.std.specs.Prelude.{◌≡◌};
+ghost use Rattle.std.specs.Prelude.{◌≡◌, ◌<◌, ◌≤◌, ◌+◌, length, OnOk};
 ghost use Rattle.std.specs.Option.{option_map};
+ghost use Rattle.std.specs.Vec.{vec_capacity};
+ghost use Rattle.layout.specs.Bases.{ArePlaces};
 ghost use Rattle.layout.specs.Points.{in_range, here_in, live_at, here_word, here_point};
 ghost use Rattle.sim_laws.specs.Origins.{origin_of};
 ghost use Rattle.world.specs.Fetching.{both};
+ghost use Rattle.world.specs.Finding.{AreFound};
 
+use layout::bases::{Place, nearest, place_all};
 use layout::layout::Layout;
 use layout::point::Point;
 use link_tags::origins::Origins;
+use oc_base::fault::NoMemory;
 use oc_base::range::Range;
+
+/// The live layouts, in the order in which they were made, and their places by base.
+#[derive(Drop)]
+pub struct Lives {
+    pub layouts: Vec<Layout>,
+    pub places: Vec<Place>,
+}
+
+impl Lives {
+    /// Makes room for one layout more.
+    pub fn reserve_one(&mut self) -> Result<(), NoMemory>
+        ensures layouts { self.new.layouts.items ≡ self.old.layouts.items }
+        ensures places { self.new.places.items ≡ self.old.places.items }
+        ensures room { OnOk result (length self.old.layouts.items < vec_capacity self.new.layouts) }
+        ensures place { OnOk result (length self.old.layouts.items + 1 ≤ vec_capacity self.new.places) }
+        ensures capacity { vec_capacity self.old.places ≤ vec_capacity self.new.places }
+    {
+        let count = self.layouts.len() + 1;
+        self.layouts.reserve(1)?;
+        self.places.reserve(count)?;
+        Ok(())
+    }
+
+    /// Finds the places of the layouts anew. It takes no memory.
+    pub fn place_all(&mut self)
+        requires { length self.old.layouts.items ≤ vec_capacity self.old.places }
+        ensures layouts { self.new.layouts ≡ self.old.layouts }
+        ensures places { ArePlaces self.old.layouts.items self.new.places.items }
+        ensures capacity { vec_capacity self.new.places ≡ vec_capacity self.old.places }
+    {
+        place_all(&mut self.places, &self.layouts);
+    }
+}
 
 /// The word that a layout has at an address, and what it stands for.
 #[tactic(auto, using(crate::proofs::Lives::no_word, crate::proofs::Lives::no_point, crate::proofs::Lives::both_here))]
@@ -23,21 +61,21 @@ fn both_in(l: &Layout, at: u64) -> Option<(u32, Point)>
 
 /// The word that a live layout has at an address, and what it stands for.
 #[inline(always)]
-pub fn live_both(lives: &[Layout], at: u64) -> Option<(u32, Point)>
-    ensures { result ≡ option_map both (live_at lives.now at) }
+pub fn live_both(lives: &Lives, at: u64) -> Option<(u32, Point)>
+    requires { AreFound lives.now }
+    ensures { result ≡ option_map both (live_at lives.now.layouts.items at) }
 {
-    for l in lives {
-        if let Some(found) = both_in(l, at) {
-            return Some(found);
-        }
-    }
-    None
+    let Some(k) = nearest(&lives.places, at) else {
+        return None;
+    };
+    both_in(&lives.layouts[k], at)
 }
 
 /// The word that a live layout has at an address.
 #[tactic(auto, using(crate::proofs::Lives::word_alone))]
-pub fn live_word(lives: &[Layout], at: u64) -> Option<u32>
-    ensures { result ≡ option_map here_word (live_at lives.now at) }
+pub fn live_word(lives: &Lives, at: u64) -> Option<u32>
+    requires { AreFound lives.now }
+    ensures { result ≡ option_map here_word (live_at lives.now.layouts.items at) }
 {
     let (word, _) = live_both(lives, at)?;
     Some(word)
@@ -46,8 +84,9 @@ pub fn live_word(lives: &[Layout], at: u64) -> Option<u32>
 /// The original address of one of the region.
 #[inline(never)]
 #[tactic(auto, using(crate::proofs::Lives::point_alone))]
-fn live_origin(lives: &[Layout], at: u64) -> u64
-    ensures { result ≡ origin_of at (option_map here_point (live_at lives.now at)) }
+fn live_origin(lives: &Lives, at: u64) -> u64
+    requires { AreFound lives.now }
+    ensures { result ≡ origin_of at (option_map here_point (live_at lives.now.layouts.items at)) }
 {
     match live_both(lives, at) {
         Some((_, Point::Start(x))) => x,
@@ -67,15 +106,16 @@ pub fn is_in(r: Range, at: u64) -> bool
 /// The original addresses of those in the region.
 #[derive(Drop)]
 pub struct Points<'a> {
-    pub lives: &'a [Layout],
+    pub lives: &'a Lives,
     pub region: Range,
+    ghost found: { AreFound lives.now },
 }
 
 impl Origins for Points<'_> {
     ghost use Rattle.sim_laws.specs.Origins.{origin_of};
     ghost use Rattle.world.specs.Worlds.{point_at};
 
-    ghost origin = { λ p a. origin_of a (point_at p.region p.lives.now a) };
+    ghost origin = { λ p a. origin_of a (point_at p.region p.lives.now.layouts.items a) };
 
     fn origin(&self, at: u64) -> u64 {
         if !is_in(self.region, at) {

@@ -9,9 +9,10 @@ ghost use Rattle.guest_mem.specs.Access.{links_of};
 ghost use Rattle.layout.specs.Points.{start_of};
 ghost use Rattle.sim_laws.specs.Changes.{with_links, with_memory};
 ghost use Rattle.world.specs.Worlds.{code_in};
+ghost use Rattle.world.specs.Finding.{AreFound};
 ghost use Rattle.world.specs.Replacing.{is_own, sent_to, slots_sent};
 
-use crate::points::Points;
+use crate::points::{Lives, Points};
 use crate::told::links_before;
 use image::picture::Image;
 use image::ranges::Aim;
@@ -44,7 +45,7 @@ fn own_start(points: &Points, image: &Image, links: &[(u64, u64)], s: &Aim) -> O
     requires rise { AllPairs (λ k l. k.0 < l.0) links.now }
     requires region { points.now.region ≡ image.now.region }
     ensures { (text : List TextData) (m : Memory) → links.now ≡ links_of m → s.now.at % 8 ≡ 0
-        → result ≡ (if is_own image.now (code_in image.now text points.now.lives.now) m s.now then start_of image.now s.now.func else None) }
+        → result ≡ (if is_own image.now (code_in image.now text points.now.lives.now.layouts.items) m s.now then start_of image.now s.now.func else None) }
 {
     let number = link_at(links, s.at)?;
     let start = start_of(image, s.func)?;
@@ -59,7 +60,7 @@ fn slot_sent(points: &Points, aims: &Aims, links: &[(u64, u64)], s: &Aim) -> Opt
     requires rise { AllPairs (λ k l. k.0 < l.0) links.now }
     requires region { points.now.region ≡ aims.now.image.now.region }
     ensures { (text : List TextData) (m : Memory) → links.now ≡ links_of m → s.now.at % 8 ≡ 0
-        → result ≡ (if is_own aims.now.image.now (code_in aims.now.image.now text points.now.lives.now) m s.now then sent_to aims.now.image.now (option_copied aims.now.new) s.now else None) }
+        → result ≡ (if is_own aims.now.image.now (code_in aims.now.image.now text points.now.lives.now.layouts.items) m s.now then sent_to aims.now.image.now (option_copied aims.now.new) s.now else None) }
 {
     let start = own_start(points, aims.image, links, s)?;
     Some((s.at, aims.moved(start).unwrap_or(start)))
@@ -80,10 +81,11 @@ pub fn slots_sent(
     alloc: Global,
     image: &Image,
     machine: &Machine,
-    lives: &[Layout],
+    lives: &Lives,
     new: Option<&Layout>,
 ) -> Result<Vec<(u64, u64)>, NoMemory>
-    ensures { (text : List TextData) → IfOk result (λ v. v.items ≡ slots_sent image.now (code_in image.now text lives.now) (option_copied new.entry) machine.now.memory) }
+    requires { AreFound lives.now }
+    ensures { (text : List TextData) → IfOk result (λ v. v.items ≡ slots_sent image.now (code_in image.now text lives.now.layouts.items) (option_copied new.entry) machine.now.memory) }
 {
     image.kept();
     let points = Points {

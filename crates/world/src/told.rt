@@ -5,9 +5,10 @@ ghost use Rattle.std.specs.List.{AllWithin, count_by};
 ghost use Rattle.layout.specs.Points.{in_range};
 ghost use Rattle.sim_laws.specs.Origins.{origin_of};
 ghost use Rattle.world.specs.Worlds.{point_at};
+ghost use Rattle.world.specs.Finding.{AreFound};
 ghost use Rattle.world.specs.Told.{is_changed, call_changed, changed_in, leads_in, hart_by, layout_facts};
 
-use crate::points::{Points, is_in};
+use crate::points::{Lives, Points, is_in};
 use hart::hart::{Hart, Status};
 use image::picture::Image;
 use image::ranges::Aim;
@@ -135,7 +136,7 @@ fn hart_by(original: u64, pc: u64, status: Status) -> HartFact
 }
 
 fn hart_fact(points: &Points, hart: &Hart) -> HartFact
-    ensures { result ≡ hart_by (origin_of hart.now.pc (point_at points.now.region points.now.lives.now hart.now.pc)) hart.now.pc hart.now.status }
+    ensures { result ≡ hart_by (origin_of hart.now.pc (point_at points.now.region points.now.lives.now.layouts.items hart.now.pc)) hart.now.pc hart.now.status }
 {
     hart_by(points.origin(hart.pc), hart.pc, hart.status)
 }
@@ -144,10 +145,11 @@ fn hart_fact(points: &Points, hart: &Hart) -> HartFact
 pub fn hart_facts(
     alloc: Global,
     machine: &Machine,
-    lives: &[Layout],
+    lives: &Lives,
     region: Range,
 ) -> Result<Vec<HartFact>, NoMemory>
-    ensures { IfOk result (λ v. v.items ≡ map (λ h. hart_by (origin_of h.pc (point_at region lives.now h.pc)) h.pc h.status) machine.now.harts) }
+    requires { AreFound lives.now }
+    ensures { IfOk result (λ v. v.items ≡ map (λ h. hart_by (origin_of h.pc (point_at region lives.now.layouts.items h.pc)) h.pc h.status) machine.now.harts) }
 {
     let made = machine.made();
     let mut all = Vec::with_capacity(alloc, made as usize)?;

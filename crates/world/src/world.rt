@@ -13,7 +13,8 @@ ghost use Rattle.sim_laws.specs.Steps.{is_layout, kind_until, original_after};
 ghost use Rattle.world.specs.Worlds.{IsSound, Related, started, code_of, kind_of, step_of, more};
 ghost use Rattle.world.specs.Runs.{until_real, taken_back, real_step_of, real_kind_of, real_steps_of, of_real};
 ghost use Rattle.world.specs.Replacing.{Refuses, IsPlacement, IsReplaced, slots_sent, refused_as, RefusedBy, Attempts};
-ghost use Rattle.world.specs.Retiring.{held_by, AreUnreferenced, without, freed, RetiresAs, LeadsToCode};
+ghost use Rattle.retire.specs.References.{AreUnreferenced};
+ghost use Rattle.world.specs.Retiring.{held_by, without, freed, RetiresAs, LeadsToCode};
 ghost use Rattle.world.specs.Records.{Records, SnapsAs, rings_of};
 ghost use Rattle.world.specs.Told.{retired_in, facts_of};
 
@@ -22,13 +23,12 @@ use crate::counts::{Counts, more};
 use crate::giving_up::{give_up, links_held, pcs_of, text_aims};
 use crate::live::{add, aim};
 use crate::place::{Placement, is_no_memory, place};
-use crate::points::live_word;
+use crate::points::{Lives, live_word};
 use crate::rings::Rings;
 use crate::slots::send;
 use crate::told::{changed_in, hart_facts, layout_facts, slots_in};
 use branch_ring::profile::Profile;
 use image::picture::Image;
-use layout::layout::Layout;
 use machine::machine::Machine;
 use machine::outcome::Outcome;
 use oc_base::fault::NoMemory;
@@ -48,7 +48,7 @@ pub struct World {
     alloc: Global,
     image: Image,
     text: TextNow,
-    lives: Vec<Layout>,
+    lives: Lives,
     numbers: Vec<u64>,
     region: Region,
     machine: Machine,
@@ -59,8 +59,10 @@ pub struct World {
 }
 
 impl Model for World {
-    ghost use Rattle.std.specs.Prelude.{◌≡◌};
+    ghost use Rattle.std.specs.Prelude.{◌≡◌, ◌≤◌, length};
+    ghost use Rattle.std.specs.Vec.{vec_capacity};
     ghost use Rattle.std.specs.Coded.{codes};
+    ghost use Rattle.layout.specs.Bases.{ArePlaces};
     ghost use Rattle.guest_mem.specs.Memory.{memory_code};
     ghost use Rattle.world.specs.Worlds.{Replaced, IsSound};
 
@@ -71,7 +73,7 @@ impl Model for World {
     ghost view = { λ w. record {
       image = w.image;
       text = w.text;
-      lives = w.lives.items;
+      lives = w.lives.layouts.items;
       numbers = w.numbers.items;
       free = w.region.free;
       machine = w.machine;
@@ -81,7 +83,8 @@ impl Model for World {
       snapshot = w.snapshot;
     } };
 
-    ghost invariant = { λ w. (w.region.all ≡ w.image.region) × IsSound w.image w.text w.lives.items w.numbers.items w.region.free };
+    ghost invariant = { λ w. (w.region.all ≡ w.image.region) × IsSound w.image w.text w.lives.layouts.items w.numbers.items w.region.free
+        × ArePlaces w.lives.layouts.items w.lives.places.items × (length w.lives.layouts.items ≤ vec_capacity w.lives.places) };
 }
 
 impl World {
@@ -108,7 +111,10 @@ impl World {
             alloc,
             image,
             text,
-            lives: Vec::new(alloc),
+            lives: Lives {
+                layouts: Vec::new(alloc),
+                places: Vec::new(alloc),
+            },
             numbers: Vec::new(alloc),
             region,
             machine,
@@ -180,14 +186,16 @@ impl World {
     pub fn retired(&self) -> u64
         ensures { result ≡ retired_in self.now }
     {
-        self.counts.placed.saturating_sub(self.lives.len() as u64)
+        self.counts
+            .placed
+            .saturating_sub(self.lives.layouts.len() as u64)
     }
 
     /// How many layouts are live.
     pub fn live_layouts(&self) -> usize
         ensures { result ≡ length self.now.lives }
     {
-        self.lives.len()
+        self.lives.layouts.len()
     }
 
     /// The step of hart `h` where it isn't one of layouts alone, and what it is. After want of memory all is as before.
@@ -415,7 +423,7 @@ impl World {
     {
         let _ = plan;
         self.region.reserve(1)?;
-        self.lives.reserve(1)?;
+        self.lives.reserve_one()?;
         self.numbers.reserve(1)?;
         let Placement {
             layout,
@@ -423,14 +431,15 @@ impl World {
             slots,
         } = placement;
         send(&mut self.machine, &slots);
-        aim(patches, &mut self.text, &mut self.lives);
+        aim(patches, &mut self.text, &mut self.lives.layouts);
         add(
-            &mut self.lives,
+            &mut self.lives.layouts,
             &mut self.numbers,
             &mut self.region,
             &mut self.counts,
             layout,
         );
+        self.lives.place_all();
         self.counts.finish();
         Ok(())
     }
@@ -503,7 +512,7 @@ impl World {
         let pcs = pcs_of(self.alloc, &self.machine)?;
         let links = links_held(self.alloc, &self.machine)?;
         let aims = text_aims(self.alloc, &self.image, &self.text)?;
-        let gone = unreferenced(self.alloc, &self.lives, &pcs, &links, &aims)?;
+        let gone = unreferenced(self.alloc, &self.lives.layouts, &pcs, &links, &aims)?;
         Ok(gone)
     }
 
@@ -519,7 +528,13 @@ impl World {
     {
         self.kept();
         self.region.reserve(gone.len())?;
-        give_up(&mut self.lives, &mut self.numbers, &mut self.region, gone);
+        give_up(
+            &mut self.lives.layouts,
+            &mut self.numbers,
+            &mut self.region,
+            gone,
+        );
+        self.lives.place_all();
         Ok(())
     }
 
@@ -588,7 +603,7 @@ impl World {
         let region = self.image.region();
         let links = self.machine.links(alloc)?;
         let refusals = Vec::from_slice(alloc, &self.refusals)?;
-        let layouts = layout_facts(alloc, &self.numbers, &self.lives)?;
+        let layouts = layout_facts(alloc, &self.numbers, &self.lives.layouts)?;
         let harts = hart_facts(alloc, &self.machine, &self.lives, region)?;
         Ok(Facts {
             real: self.counts.real,

@@ -8,32 +8,32 @@ use Rattle.world.proofs.code.other_step_in.Goals as goal
 
 pub returns-then-is_layout_fetch-clause-kind : goal.returns-then-is_layout_fetch-clause-kind
 returns-then-is_layout_fetch-clause-kind c =
-    layout_kind (code_in c.args.image.now c.args.text.now c.args.lives.now) c.args.h c.args.machine.now c.hart.result.now c.fetch-fetched.result
+    layout_kind (code_in c.args.image.now c.args.text.now c.args.lives.now.layouts.items) c.args.h c.args.machine.now c.hart.result.now c.fetch-fetched.result
     (ap is_some (sym c.outcome.ensures) ∙ sym c.is_some.ensures ∙ c.if-is_some.false) (sym c.is_live.ensures ∙ c.if-not-is_live.false) c.hart.ensures c.fetch-fetched.ensures
     (sym c.is_layout_fetch.ensures ∙ c.if-is_layout_fetch.true)
 
 pub returns-then-is_layout_fetch-clause-step : goal.returns-then-is_layout_fetch-clause-step
 returns-then-is_layout_fetch-clause-step c =
-    let code = code_in c.args.image.now c.args.text.now c.args.lives.now in
+    let code = code_in c.args.image.now c.args.text.now c.args.lives.now.layouts.items in
     layout_left code c.args.h c.args.machine.now c.hart.result.now c.fetch-fetched.result
     (ap is_some (sym c.outcome.ensures) ∙ sym c.is_some.ensures ∙ c.if-is_some.false) (sym c.is_live.ensures ∙ c.if-not-is_live.false) c.hart.ensures c.fetch-fetched.ensures
     (replaced_step c.args.image.now code c.args.h c.args.machine.now) (sym c.is_layout_fetch.ensures ∙ c.if-is_layout_fetch.true)
 
 pub step_live-requires-clause-word : goal.step_live-requires-clause-word
 step_live-requires-clause-word c =
-    word_is (code_in c.args.image.now c.args.text.now c.args.lives.now) c.args.h c.args.machine.now c.hart.result.now c.fetch-fetched.result
+    word_is (code_in c.args.image.now c.args.text.now c.args.lives.now.layouts.items) c.args.h c.args.machine.now c.hart.result.now c.fetch-fetched.result
     (ap is_some (sym c.outcome.ensures) ∙ sym c.is_some.ensures ∙ c.if-is_some.false) (sym c.is_live.ensures ∙ c.if-not-is_live.false) c.hart.ensures c.fetch-fetched.ensures
     c.word_of.result c.word_of.ensures (sym c.is_layout_fetch.ensures ∙ c.if-is_layout_fetch.false)
 
 pub returns-clause-kind : goal.returns-clause-kind
 returns-clause-kind c =
-    real_kind (code_in c.args.image.now c.args.text.now c.args.lives.now) c.args.h c.args.machine.now c.hart.result.now c.fetch-fetched.result
+    real_kind (code_in c.args.image.now c.args.text.now c.args.lives.now.layouts.items) c.args.h c.args.machine.now c.hart.result.now c.fetch-fetched.result
     (ap is_some (sym c.outcome.ensures) ∙ sym c.is_some.ensures ∙ c.if-is_some.false) (sym c.is_live.ensures ∙ c.if-not-is_live.false) c.hart.ensures c.fetch-fetched.ensures
     (sym c.is_layout_fetch.ensures ∙ c.if-is_layout_fetch.false)
 
 pub returns-clause-step : goal.returns-clause-step
 returns-clause-step c =
-    let code = code_in c.args.image.now c.args.text.now c.args.lives.now in
+    let code = code_in c.args.image.now c.args.text.now c.args.lives.now.layouts.items in
     real_made code c.args.h c.args.machine.now c.hart.result.now c.fetch-fetched.result
     (ap is_some (sym c.outcome.ensures) ∙ sym c.is_some.ensures ∙ c.if-is_some.false) (sym c.is_live.ensures ∙ c.if-not-is_live.false) c.hart.ensures c.fetch-fetched.ensures
     c.step_live.new.machine (replaced_step c.args.image.now code c.args.h c.args.machine.now) (sym c.is_layout_fetch.ensures ∙ c.if-is_layout_fetch.false) c.in-Ok.ensures.ok

@@ -5,8 +5,8 @@ use Rattle.world.proofs.code.step_live.Goals as goal
 
 pub returns-clause-ok : goal.returns-clause-ok
 returns-clause-ok c =
-    let code = code_in c.args.image.now c.args.text.now c.args.lives.now in
-    stepped_on c.args.image.now c.args.text.now c.args.lives.now c.region.result c.args.h c.args.machine.now c.step_fetched.new.self c.args.word
+    let code = code_in c.args.image.now c.args.text.now c.args.lives.now.layouts.items in
+    stepped_on c.args.image.now c.args.text.now c.args.lives.now.layouts.items c.region.result c.args.h c.args.machine.now c.step_fetched.new.self c.args.word
     c.requires.can c.region.ensures c.requires.word c.in-Ok.ensures.step
 
 pub returns-clause-transfer : goal.returns-clause-transfer

@@ -1,20 +1,13 @@
-use Rattle.std.proofs.Common.{sym, ap, ◌∙◌}
-use Rattle.std.specs.Option.{option_map}
-use Rattle.layout.specs.Laid.{Laid}
-use Rattle.layout.specs.Points.{here_in}
-use Rattle.world.specs.Fetching.{both}
-use Rattle.world.proofs.Lives.{live_found, live_next, none_left}
+use Rattle.world.proofs.Lives.{are_places, nearest_none, nearest_some}
 use Rattle.world.proofs.points.live_both.Goals as goal
 
-pub returns-in-Some : goal.returns-in-Some
-returns-in-Some c =
-    let here = ap (λ (l : Laid). option_map both (here_in l c.args.at)) (sym c.l-item.is) ∙ sym c.both_in.ensures ∙ c.in-Some.is in
-    sym (c.loop-l.invariant ∙ live_found both c.args.lives.now c.loop-l.l-index c.args.at c.l-item.result c.in-Some.found c.loop-l-test.true here)
-
-pub loop-l-preserved : goal.loop-l-preserved
-loop-l-preserved c =
-    let here = ap (λ (l : Laid). option_map both (here_in l c.args.at)) (sym c.l-item.is) ∙ sym c.both_in.ensures ∙ c.in_default.is in
-    c.loop-l.invariant ∙ live_next both c.args.lives.now c.loop-l.l-index c.args.at c.l-item.result c.loop-l-test.true here
+pub returns-in_default : goal.returns-in_default
+returns-in_default c =
+    nearest_none c.args.lives.now c.deref.result.now c.args.at c.nearest.result c.deref.ensures.value c.requires c.nearest.ensures.only c.in_default.is
 
 pub returns : goal.returns
-returns c = sym (c.loop-l.invariant ∙ none_left both c.args.lives.now c.loop-l.l-index c.args.at c.loop-l-test.false)
+returns c =
+    let lives = c.args.lives.now in
+    let places = are_places lives c.deref.result.now c.args.at c.nearest.result c.deref.ensures.value c.requires c.nearest.ensures.only in
+    nearest_some lives c.deref.result.now c.args.at c.nearest.result c.deref.ensures.value c.requires c.nearest.ensures.only
+    c.in-Some.k c.index.result.now c.both_in.result c.in-Some.is (c.in-Some.ensures.within lives.layouts.items places) c.index.ensures c.both_in.ensures

@@ -7,7 +7,7 @@ pub returns-then-origin-start : goal.returns-then-origin-start
 returns-then-origin-start c =
     λ text m is whole. (
     let p = c.args.image.now in
-    let lives = c.args.points.now.lives.now in
+    let lives = c.args.points.now.lives.now.layouts.items in
     let same = origin_as p text lives c.args.points.now.region c.in_ok-number.number c.requires.region in
     other_start p (code_in p text lives) m c.args.s.now c.in_ok-number.number c.in_ok-start.start (c.in_ok-number.ensures m is whole) (sym c.in_ok-start.ensures)
     (λ e. c.if-origin-start.true (c.origin.ensures ∙ same ∙ e)))
@@ -16,7 +16,7 @@ pub returns : goal.returns
 returns c =
     λ text m is whole. (
     let p = c.args.image.now in
-    let lives = c.args.points.now.lives.now in
+    let lives = c.args.points.now.lives.now.layouts.items in
     let same = origin_as p text lives c.args.points.now.region c.in_ok-number.number c.requires.region in
     own_start p (code_in p text lives) m c.args.s.now c.in_ok-number.number c.in_ok-start.start (c.in_ok-number.ensures m is whole) (sym c.in_ok-start.ensures)
     (sym same ∙ sym c.origin.ensures ∙ c.if-origin-start.false))

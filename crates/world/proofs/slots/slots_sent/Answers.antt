@@ -18,7 +18,7 @@ slot_sent-requires-clause-rise c =
 
 pub loop-s-preserved : goal.loop-s-preserved
 loop-s-preserved c = λ text. (
-    let lives = c.args.lives.now in
+    let lives = c.args.lives.now.layouts.items in
     let m = c.args.machine.now.memory in
     let new = option_copied c.in_ok-aims.aims.new in
     let d : Aim = record { at = 0; func = 0 } in
@@ -31,7 +31,7 @@ loop-s-preserved c = λ text. (
 
 pub returns : goal.returns
 returns c = λ text. (
-    let lives = c.args.lives.now in
+    let lives = c.args.lives.now.layouts.items in
     let p = c.args.image.now in
     let m = c.args.machine.now.memory in
     let all = all_there _ c.slots-s-items.result.now c.loop-s.s-index c.loop-s.all.items _ c.loop-s-test.false (c.loop-s.invariant text) in

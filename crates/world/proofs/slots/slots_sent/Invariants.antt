@@ -11,5 +11,5 @@ use Rattle.world.proofs.slots.slots_sent.Given as goal
 abbrev pub invariant-loop-s : goal.invariant-loop-s
 invariant-loop-s l =
     (text : List TextRange)
-    → l.all.items ++ filter_map (λ s. if is_own l.image (code_in l.image text l.lives) l.machine.memory s then sent_to l.image (option_copied l.aims.new) s else None) (drop l.s-index l.s-items)
-    ≡ filter_map (λ s. if is_own l.image (code_in l.image text l.lives) l.machine.memory s then sent_to l.image (option_copied l.aims.new) s else None) l.s-items
+    → l.all.items ++ filter_map (λ s. if is_own l.image (code_in l.image text l.lives.layouts.items) l.machine.memory s then sent_to l.image (option_copied l.aims.new) s else None) (drop l.s-index l.s-items)
+    ≡ filter_map (λ s. if is_own l.image (code_in l.image text l.lives.layouts.items) l.machine.memory s then sent_to l.image (option_copied l.aims.new) s else None) l.s-items

@@ -6,5 +6,5 @@ use Rattle.world.proofs.told.hart_facts.Given as goal
 
 abbrev pub invariant-loop-h : goal.invariant-loop-h
 invariant-loop-h l =
-    l.all.items ++ map (λ h. hart_by (origin_of h.pc (point_at l.region l.lives h.pc)) h.pc h.status) (drop l.h l.machine.harts)
-    ≡ map (λ h. hart_by (origin_of h.pc (point_at l.region l.lives h.pc)) h.pc h.status) l.machine.harts
+    l.all.items ++ map (λ h. hart_by (origin_of h.pc (point_at l.region l.lives.layouts.items h.pc)) h.pc h.status) (drop l.h l.machine.harts)
+    ≡ map (λ h. hart_by (origin_of h.pc (point_at l.region l.lives.layouts.items h.pc)) h.pc h.status) l.machine.harts

@@ -2,7 +2,7 @@ use Rattle.std.proofs.Common.{ℕ, ltb, ltb-true, rules}
 use Rattle.std.proofs.lemmas.Bool.{ltb-false}
 use Rattle.std.proofs.lemmas.List.Sorted.{IsPartitionPoint-from_clause, IsPartitionedBy-ltb}
 use Rattle.placer.specs.Chosen.{row_from}
-use Rattle.placer.proofs.choose.rows_below.Goals as goal
+use Rattle.placer.proofs.rows.rows_below.Goals as goal
 
 pub returns-clause-below : goal.returns-clause-below
 returns-clause-below c =
