@@ -29,7 +29,7 @@ returns-in-Snap c = on_ok_weaker c.snap.result (λ is.
 pub returns-in-Replace : goal.returns-in-Replace
 returns-in-Replace c = on_ok_weaker c.replace_by_snapshot.result (λ is.
     let run = runs_cons (a_replacement is.0) [] c.args.world.now c.replace_by_snapshot.new.world c.replace_by_snapshot.new.world (is.2, is.3) (runs_none c.replace_by_snapshot.new.world) in
-    subst (λ e. Obeyed e c.args.world.now c.replace_by_snapshot.new.world) (sym c.in-Replace.is) (run.0, is.0, is.1, run.1)) c.replace_by_snapshot.ensures
+    subst (λ e. Obeyed e c.args.world.now c.replace_by_snapshot.new.world) (sym c.in-Replace.is) (run.0, (is.0, is.1, run.1))) c.replace_by_snapshot.ensures
 
 pub returns-in-Given : goal.returns-in-Given
 returns-in-Given c =
