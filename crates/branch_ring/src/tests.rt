@@ -15,8 +15,11 @@ fn ring_of(alloc: Global, room: usize, pairs: &[(u64, u64)]) -> Result<Ring, Fai
 }
 
 const CALLED: (u64, u64) = (0x10000, 0x10010);
+
 const AGAIN: (u64, u64) = (0x10018, 0x10014);
+
 const THROUGH: (u64, u64) = (0x10018, 0x1001c);
+
 const BACK: (u64, u64) = (0x10024, 0x10004);
 
 #[test]

@@ -1,4 +1,4 @@
-use Rattle.std.proofs.Common.{length, arith}
+use Rattle.std.proofs.Common.{arith}
 use Rattle.std.proofs.lemmas.List.Concat.{length-flat_map}
 use Rattle.branch_ring.specs.Rings.{Notes}
 use Rattle.branch_ring.specs.Profiles.{all_pairs}

@@ -1,11 +1,9 @@
-use Rattle.std.proofs.Common.{arith, ◌≡◌, ℕ, ◌≤◌, ◌+◌, zero, suc, length, take, get_or, flat_map}
-use Rattle.std.specs.Prelude.{None, unwrap_or}
+use Rattle.std.proofs.Common.{arith, take}
 use Rattle.std.proofs.lemmas.List.Concat.{length-flat_map}
 use Rattle.std.proofs.lemmas.List.Folds.{length-flat_map-take}
 use Rattle.std.proofs.lemmas.List.Sums.{count_by-le-length}
 use Rattle.branch_ring.specs.Rings.{Notes}
 use Rattle.branch_ring.specs.Profiles.{all_pairs, is_pair, times}
-use Rattle.branch_ring.specs.Tallies.{with_more}
 use Rattle.branch_ring.proofs.Tallied.{at_most}
 use Rattle.branch_ring.proofs.tally.tally_of.Goals as goal
 
