@@ -8,4 +8,6 @@ pub mod laws;
 mod lay;
 mod linked;
 mod slots;
+#[cfg(test)]
+mod tests;
 mod weigh;
