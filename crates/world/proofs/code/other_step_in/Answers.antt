@@ -40,16 +40,16 @@ returns-clause-step c =
 
 pub returns-then-is_some-clause-transfer : goal.returns-then-is_some-clause-transfer
 returns-then-is_some-clause-transfer c =
-    sym (ended_none c.args.image.now (code_in c.args.image.now c.args.text.now c.args.lives.now) c.args.h c.args.machine.now (ap is_some (sym c.outcome.ensures) ∙ sym c.is_some.ensures ∙ c.if-is_some.true))
+    sym (ended_none c.args.image.now (code_in c.args.image.now c.args.text.now c.args.lives.now.layouts.items) c.args.h c.args.machine.now (ap is_some (sym c.outcome.ensures) ∙ sym c.is_some.ensures ∙ c.if-is_some.true))
 
 pub returns-then-not-is_live-clause-transfer : goal.returns-then-not-is_live-clause-transfer
 returns-then-not-is_live-clause-transfer c =
-    sym (resting_none c.args.image.now (code_in c.args.image.now c.args.text.now c.args.lives.now) c.args.h c.args.machine.now
+    sym (resting_none c.args.image.now (code_in c.args.image.now c.args.text.now c.args.lives.now.layouts.items) c.args.h c.args.machine.now
     (ap is_some (sym c.outcome.ensures) ∙ sym c.is_some.ensures ∙ c.if-is_some.false) (sym c.is_live.ensures ∙ c.if-not-is_live.true))
 
 pub returns-then-is_layout_fetch-clause-transfer : goal.returns-then-is_layout_fetch-clause-transfer
 returns-then-is_layout_fetch-clause-transfer c =
-    let code = code_in c.args.image.now c.args.text.now c.args.lives.now in
+    let code = code_in c.args.image.now c.args.text.now c.args.lives.now.layouts.items in
     let kind = layout_kind code c.args.h c.args.machine.now c.hart.result.now c.fetch-fetched.result
     (ap is_some (sym c.outcome.ensures) ∙ sym c.is_some.ensures ∙ c.if-is_some.false) (sym c.is_live.ensures ∙ c.if-not-is_live.false) c.hart.ensures c.fetch-fetched.ensures
     (sym c.is_layout_fetch.ensures ∙ c.if-is_layout_fetch.true) in
@@ -57,7 +57,7 @@ returns-then-is_layout_fetch-clause-transfer c =
 
 pub returns-clause-transfer : goal.returns-clause-transfer
 returns-clause-transfer c =
-    let code = code_in c.args.image.now c.args.text.now c.args.lives.now in
+    let code = code_in c.args.image.now c.args.text.now c.args.lives.now.layouts.items in
     let kind = real_kind code c.args.h c.args.machine.now c.hart.result.now c.fetch-fetched.result
     (ap is_some (sym c.outcome.ensures) ∙ sym c.is_some.ensures ∙ c.if-is_some.false) (sym c.is_live.ensures ∙ c.if-not-is_live.false) c.hart.ensures c.fetch-fetched.ensures
     (sym c.is_layout_fetch.ensures ∙ c.if-is_layout_fetch.false) in

@@ -11,5 +11,5 @@ returns-clause-ok c =
 
 pub returns-clause-transfer : goal.returns-clause-transfer
 returns-clause-transfer c =
-    moved_on c.args.image.now c.args.text.now c.args.lives.now c.region.result c.args.h c.args.machine.now c.step_fetched.new.self c.args.word _
+    moved_on c.args.image.now c.args.text.now c.args.lives.now.layouts.items c.region.result c.args.h c.args.machine.now c.step_fetched.new.self c.args.word _
     c.requires.can c.region.ensures c.requires.word c.in-Ok.ensures.step c.in-Ok.ensures.transfer
