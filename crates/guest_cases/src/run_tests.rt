@@ -254,7 +254,8 @@ fn crowded(alloc: Global) -> Result<Vec<u8>, Fail> {
 
 #[test]
 fn a_page_of_layouts_has_room_again_after_a_retirement(rt: HostRuntime) -> Result<(), Fail> {
-    let wanted = "115|real 0 layout 0/snaps 0 attempts 115 done 114 refused 1 retired 112/refusal 114 region 36 28/sites 2 slots 0/layout 113 0x20fc0 9/layout 114 0x20000 9/hart 0 live 0x10000 0x10000/|ocolos: unfinished/";
+    let wanted =
+        "115|real 0 layout 0/snaps 0 attempts 115 done 114 refused 1 retired 112/refusal 114 region 36 28/sites 2 slots 0/layout 113 0x20fc0 9/layout 114 0x20000 9/hart 0 live 0x10000 0x10000/|ocolos: unfinished/";
     assert_eq!(rt; crowded(rt.alloc())?, with_newlines(rt.alloc(), wanted)?);
     Ok(())
 }

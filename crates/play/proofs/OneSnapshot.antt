@@ -1,10 +1,10 @@
 -- A snapshot of a world has one result.
-use Rattle.std.proofs.Common.{◌≡◌, ℕ, true, false, List, is_some, sym, ap, ◌∙◌}
+use Rattle.std.proofs.Common.{◌≡◌, true, false, sym, ap, ◌∙◌}
 use Rattle.std.proofs.lemmas.Bool.{false≢true}
 use Rattle.branch_ring.specs.Profiles.{all_pairs}
 use Rattle.branch_ring.proofs.Ascending.{one_profile}
 use Rattle.world.specs.Worlds.{Replaced, more}
-use Rattle.world.specs.Records.{IsSnapped, Snaps, over, done}
+use Rattle.world.specs.Records.{Snaps, over, done}
 
 pub one_snapshot : (w u v : Replaced) → Snaps w u → Snaps w v → u ≡ v
 one_snapshot w u v (over e is) (over f is') = is ∙ sym is'

@@ -4,12 +4,11 @@ use Rattle.std.specs.Prelude.{true, false, if◌then◌else◌, Bool}
 use Rattle.std.specs.List.{AllByRecursion}
 use Rattle.std.proofs.lemmas.List.{drop_more}
 use Rattle.plans.specs.declared.plan.Moved.{Moved}
-use Rattle.image.specs.Picture.{Picture}
-use Rattle.sched_log.specs.Ranges.{AreInRange, IsInRange}
+use Rattle.sched_log.specs.Ranges.{IsInRange}
 use Rattle.sched_log.specs.declared.event.Event.{Event}
 use Rattle.sched_log.specs.declared.event.Event.TheVariants.{Steps, Real, Till, Snap, Replace, Given, Retire}
 use Rattle.sim_laws.specs.Steps.{is_layout}
-use Rattle.world.specs.Worlds.{Replaced, kind_of, step_of, started}
+use Rattle.world.specs.Worlds.{Replaced, kind_of, step_of}
 use Rattle.world.specs.Replacing.{Replaces, over, done, refused}
 use Rattle.world.specs.Retiring.{Retires}
 use Rattle.world.specs.Retiring as retiring
@@ -121,10 +120,6 @@ plays_image (e ∷ es) hs w v p = plays_image es p.2 p.0 v p.5 ∙ event_image e
 -- so what is left of the events is ready after the first
 pub ready_next : (e : Event) (es : List Event) (w u : Replaced) → AreReady (e ∷ es) w → Obeyed e w u → AreReady es u
 ready_next e es w u ready r = subst (λ p. AllByRecursion (IsInRange p) es) (sym (event_image e r.0 w u r.1)) ready.1
-
--- a script's events at the start
-pub ready_first : (image : Picture) (ring : ℕ) (input : List ℕ) (events : List Event) → AreInRange image events → AreReady events (started image ring input)
-ready_first image ring input events range = range.each
 
 -- ---- places in a list of events
 pub can_obey_at : (es : List Event) (i : ℕ) (d : Event) (w : Replaced) → i < length es → AreReady (drop i es) w → CanObey (get_or es i d) w

@@ -68,7 +68,7 @@ module _ (laws : Laws) (one : OneResult) where
 
   -- what the run of some events from the start comes to
   module _ (image : Picture) (events : List Event) (ring : ℕ) (input : List ℕ) (kept : IsKept image) (harts : List ℕ) (world : Replaced)
-    (plays : Plays events harts (started image ring input) world) where
+      (plays : Plays events harts (started image ring input) world) where
     abbrev start : Replaced
     start = started image ring input
 

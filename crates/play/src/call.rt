@@ -104,7 +104,14 @@ fn decide<F: Files, I: Source>(
     };
     match &said.guest {
         Guest::Files { program, script } => {
-            decide_files(alloc, &said, program.as_str(), script.as_str(), files, input)
+            decide_files(
+                alloc,
+                &said,
+                program.as_str(),
+                script.as_str(),
+                files,
+                input,
+            )
         }
         Guest::Generated { count } => decide_guest(alloc, &said, *count, input),
     }

@@ -1,9 +1,7 @@
-use Rattle.std.proofs.Common.{◌≡◌, ℕ, [], replicate, subst, sym}
+use Rattle.std.proofs.Common.{◌≡◌, [], replicate, subst, sym}
 use Rattle.std.proofs.lemmas.Result.{on_ok_weaker}
-use Rattle.sched_log.specs.declared.event.Event.{Event}
-use Rattle.world.specs.Runs.{Atom, a_step, a_real_step, a_snap, a_replacement, a_retirement}
-use Rattle.world.specs.Worlds.{Replaced}
-use Rattle.play.specs.Events.{turns, Runs, Obeyed}
+use Rattle.world.specs.Runs.{a_real_step, a_snap, a_replacement, a_retirement}
+use Rattle.play.specs.Events.{Runs, Obeyed}
 use Rattle.std.specs.Prelude.{None}
 use Rattle.plans.specs.Given.{plan_fault}
 use Rattle.play.specs.Ready.{CanObey}

@@ -1,5 +1,3 @@
-use Rattle.std.proofs.Common.{Result, Ok, Err}
-use Rattle.std.specs.Prelude.{OnOk}
 use Rattle.play.proofs.Attempted.{snaps_as}
 use Rattle.play.proofs.schedule.snap.Goals as goal
 
