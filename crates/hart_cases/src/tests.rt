@@ -17,6 +17,7 @@ use relocs::build::build_image;
 use rv_asm::assemble::assemble;
 use rv_isa::instr::Width;
 use std::alloc::{AllocError, Global};
+use std::fmt::Write;
 use std::test::Fail;
 
 /// A hart waits at a word, and the hart that it made wakes it. It is then answered 0, and writes A.
@@ -516,5 +517,82 @@ fn the_pages_of_a_machine_have_what_its_harts_stored(rt: HostRuntime) -> Result<
     run(&mut machine, &image, "0*5 1*4")?;
     assert_eq!(rt; number_at(machine.memory(), 0x11000), Ok(Value::plain(1)));
     assert_eq!(rt; number_at(machine.memory(), 0), Err(Access::NoAccess));
+    Ok(())
+}
+
+/// A call, a return, a branch that isn't taken, and a jump that ends the run.
+const JUMPS: &str = "\
+.func main
+    jal x1,f
+    bne x0,x0,main
+    jalr x0,0(x0)
+.end
+.func f
+    jalr x0,0(x1)
+.end
+";
+
+/// The transfer of a step of a hart, if it makes one.
+fn transfer(
+    machine: &mut Machine,
+    image: &Image,
+    h: u32,
+) -> Result<Option<(u64, u64)>, Fail> {
+    if machine.outcome().is_some() || !machine.is_live(h) || h >= machine.made() {
+        return Ok(None);
+    }
+    let word = image.word(machine.hart(h).pc);
+    let ran = machine.step_fetched(image, &Same, h, word)?;
+    Ok(ran.transfer)
+}
+
+/// Adds the transfer of a step of a hart to a text.
+fn add_transfer(
+    text: &mut String,
+    machine: &mut Machine,
+    image: &Image,
+    h: u32,
+) -> Result<(), Fail> {
+    if let Some((from, to)) = transfer(machine, image, h)? {
+        write!(text, "{from:x}-{to:x} ")?;
+    }
+    Ok(())
+}
+
+/// The transfers of a hart in so many steps.
+fn transfers(
+    alloc: Global,
+    machine: &mut Machine,
+    image: &Image,
+    h: u32,
+    steps: u32,
+) -> Result<String, Fail> {
+    let mut text = String::new(alloc);
+    for _step in 0..steps {
+        add_transfer(&mut text, machine, image, h)?;
+    }
+    Ok(text)
+}
+
+#[test]
+fn a_step_on_a_branch_or_a_jump_is_a_transfer(rt: HostRuntime) -> Result<(), Fail> {
+    let alloc = rt.alloc();
+    let image = image_of(alloc, JUMPS)?;
+    let mut machine = Machine::start(alloc, &image, Vec::new(alloc))?;
+    let text = transfers(alloc, &mut machine, &image, 0, 9)?;
+    assert_eq!(rt; text.as_str(), "10000-1000c 1000c-10004 10004-10008 ");
+    assert!(rt; machine.outcome().is_some());
+    Ok(())
+}
+
+#[test]
+fn each_hart_takes_its_own_side_of_a_branch(rt: HostRuntime) -> Result<(), Fail> {
+    let alloc = rt.alloc();
+    let image = image_of(alloc, HANDOVER)?;
+    let mut machine = Machine::start(alloc, &image, Vec::new(alloc))?;
+    let first = transfers(alloc, &mut machine, &image, 0, 13)?;
+    let second = transfers(alloc, &mut machine, &image, 1, 20)?;
+    assert_eq!(rt; first.as_str(), "10018-1001c ");
+    assert_eq!(rt; second.as_str(), "10018-10060 ");
     Ok(())
 }

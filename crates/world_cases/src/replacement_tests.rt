@@ -79,3 +79,17 @@ fn what_nothing_refers_to_is_given_up(rt: HostRuntime) -> Result<(), Fail> {
     assert_eq!(rt; first_missing(rt.alloc(), RETIREMENTS)?.as_str(), "");
     Ok(())
 }
+
+const SNAPSHOTS: &str = "\
+each transfer is counted: countdown | real 9, snap = real 9 layout 0; snaps 1 of 4; transfer 10000 10010 1; transfer 10018 10014 1; transfer 10018 1001c 1; transfer 10024 10004 1
+the last two are kept: countdown | ring 2, real 9, snap = snaps 1 of 2; transfer 10018 1001c 1; transfer 10024 10004 1
+moved code is recorded by original addresses: countdown | ring 4, replace 1:2 1 0, real 9, snap = snaps 1 of 4; transfer 10000 10010 1; transfer 10018 10014 1; transfer 10018 1001c 1; transfer 10024 10004 1
+a snapshot takes the place of the one before: countdown | ring 1, real 1, snap, real 4, snap = snaps 2 of 1; transfer 10018 10014 1
+nothing is kept: countdown | ring 0, real 9, snap = snaps 1 of 0
+after the end none is taken: countdown | real 100, snap = snaps 0 of 0; exit 28";
+
+#[test]
+fn snapshots_count_the_last_transfers(rt: HostRuntime) -> Result<(), Fail> {
+    assert_eq!(rt; first_missing(rt.alloc(), SNAPSHOTS)?.as_str(), "");
+    Ok(())
+}

@@ -25,7 +25,14 @@ fn retire(world: &mut World) -> Result<(), Fail> {
     Ok(())
 }
 
-/// One command: `real N`, `step N`, `retire` or a plan.
+fn snap(world: &mut World) -> Result<(), Fail> {
+    let Ok(()) = world.snap() else {
+        return Err(Fail::new("out of memory"));
+    };
+    Ok(())
+}
+
+/// One command: `real N`, `step N`, `retire`, `snap` or a plan.
 fn obey(alloc: Global, world: &mut World, command: &str) -> Result<(), Fail> {
     let (word, rest) = command.split_once(' ').unwrap_or(("", ""));
     if word == "real" {
@@ -36,6 +43,9 @@ fn obey(alloc: Global, world: &mut World, command: &str) -> Result<(), Fail> {
     }
     if command == "retire" {
         return retire(world);
+    }
+    if command == "snap" {
+        return snap(world);
     }
     replace(alloc, world, rest)
 }
@@ -95,6 +105,22 @@ fn hart_text(alloc: Global, hart: HartFact) -> Result<String, AllocError> {
     }
 }
 
+fn transfer_text(alloc: Global, transfer: (u64, u64, u64)) -> Result<String, AllocError> {
+    let (from, to, count) = transfer;
+    format!(in alloc; "transfer {from:x} {to:x} {count}\n")
+}
+
+/// The last snapshot, and how many there were.
+fn snapshot_text(alloc: Global, world: &World, snaps: u64) -> Result<String, AllocError> {
+    let counts = world.snapshot().counts();
+    let kinds = counts.len();
+    let mut text = format!(in alloc; "snaps {snaps} of {kinds}\n")?;
+    for transfer in counts {
+        text.push_str(&transfer_text(alloc, *transfer)?)?;
+    }
+    Ok(text)
+}
+
 fn told(alloc: Global, world: &World) -> Result<String, Fail> {
     let Ok(facts) = world.facts(alloc) else {
         return Err(Fail::new("out of memory"));
@@ -117,17 +143,28 @@ fn told(alloc: Global, world: &World) -> Result<String, Fail> {
     for hart in facts.harts.as_slice() {
         text.push_str(&hart_text(alloc, *hart)?)?;
     }
+    text.push_str(&snapshot_text(alloc, world, facts.snaps)?)?;
     text.push_str(&outcome_text(alloc, world.outcome())?)?;
     Ok(text)
+}
+
+/// How many transfers are kept, where a script begins with that as `ring N, `, and the commands.
+fn ring_of(script: &str) -> (u32, &str) {
+    let Some(rest) = script.strip_prefix("ring ") else {
+        return (4096, script);
+    };
+    let (ring, commands) = rest.split_once(", ").unwrap_or(("", ""));
+    (number(ring), commands)
 }
 
 /// What is told of a guest after a script, whose commands stand apart by `, `.
 fn after(alloc: Global, guest: &str, script: &str) -> Result<String, Fail> {
     let image = image_of(alloc, guest)?;
-    let Ok(mut world) = World::start(alloc, image, Vec::new(alloc)) else {
+    let (ring, commands) = ring_of(script);
+    let Ok(mut world) = World::start(alloc, image, Vec::new(alloc), ring) else {
         return Err(Fail::new("out of memory"));
     };
-    for command in script.split(", ") {
+    for command in commands.split(", ") {
         obey(alloc, &mut world, command)?;
     }
     told(alloc, &world)
