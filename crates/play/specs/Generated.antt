@@ -1,6 +1,5 @@
 -- What is run with no files: a generated guest, and the script that goes with it. Source: this project.
-use Rattle.std.specs.Prelude.{◌≡◌, ℕ, ◌*◌, List, [], ◌∷◌, ◌++◌, flat_map}
-use Rattle.std.specs.List.{range_with_len}
+use Rattle.std.specs.Prelude.{◌≡◌, ℕ, zero, suc, ◌*◌, List, [], ◌∷◌, ◌++◌}
 use Rattle.elf_make.specs.File.{elf_of}
 use Rattle.guest_gen.specs.Generated.{IsGenerated}
 use Rattle.rv_asm.specs.declared.program.Program.{Program}
@@ -20,7 +19,8 @@ round n = Till (500 * n) ∷ Snap ∷ Retire ∷ Replace ∷ []
 
 -- so many rounds
 abbrev pub rounds : ℕ → ℕ → List Event
-rounds count n = flat_map (λ _. round n) (range_with_len 0 count)
+rounds zero n = []
+rounds (suc count) n = rounds count n ++ round n
 
 -- 20 rounds, and then turns enough for the guest to end
 abbrev pub guest_events : ℕ → List Event
