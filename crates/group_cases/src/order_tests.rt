@@ -1,0 +1,79 @@
+//! Orders of functions. A row is a guest, the functions, transfers as `from>to`, some with how often they are made, and the order. What
+//! is wanted was told by an independent implementation.
+
+ghost use Rattle.std.specs.Prelude.{◌<◌, All, AllPairs, length, IfOk};
+
+use branch_ring::profile::profile_of;
+use branch_ring::ring::Ring;
+use cases::orders::number;
+use cases::rows::{check, separate};
+use image::picture::Image;
+use place_funcs::closest::closest;
+use std::alloc::{AllocError, Global};
+use std::test::Fail;
+
+/// The number that hexadecimal digits say.
+fn address(word: &str) -> u64 {
+    u64::from_str_radix(word, 16).unwrap_or(u64::MAX)
+}
+
+/// Notes a transfer as often as a word such as `10018>10014*3` says.
+fn note(ring: &mut Ring, word: &str) {
+    let (pair, times) = word.split_once('*').unwrap_or((word, "1"));
+    let (from, to) = pair.split_once('>').unwrap_or(("", ""));
+    for _ in 0..number(times) {
+        ring.note(address(from), address(to));
+    }
+}
+
+/// The numbers below another.
+fn all_below(alloc: Global, end: u32) -> Result<Vec<u32>, AllocError>
+    ensures rise { IfOk result (λ v. AllPairs (λ f g. f < g) v.items) }
+    ensures below { IfOk result (λ v. All (λ f. f < end) v.items) }
+{
+    let mut numbers = Vec::new(alloc);
+    for f in 0..end {
+        numbers.push(f)?;
+    }
+    Ok(numbers)
+}
+
+/// The order of all functions for the profile of some transfers.
+fn ordered(alloc: Global, image: &Image, case: &str) -> Result<String, Fail> {
+    let mut ring = Ring::new(alloc, 64)?;
+    for word in case.split_whitespace() {
+        note(&mut ring, word);
+    }
+    let profile = profile_of(alloc, &[ring])?;
+    image.kept();
+    let funcs = all_below(alloc, image.funcs().len() as u32)?;
+    let mut text = String::new(alloc);
+    for f in closest(alloc, image, &funcs, &profile)? {
+        separate(&mut text, " ")?;
+        text.push_str(&format!(in alloc; "{f}")?)?;
+    }
+    Ok(text)
+}
+
+const TIES: &str = "\
+faults | 10000>1000c*3 10010>10014*3 = 0 1 2 3 4 5 6
+faults | 10000>1000c 1000c>10010 10010>10000 10014>10000*2 = 3 0 1 2 4 5 6
+faults | 10014>10000*4 1001c>10000*4 10024>10000*4 1002c>10000*4 = 5 4 0 3 6 1 2
+faults | 10024>10028*5 1001c>10020*5 10000>10004*2 = 4 5 0 1 2 3 6";
+
+#[test]
+fn of_equal_weights_and_counts_the_least_come_first(rt: HostRuntime) -> Result<(), Fail> {
+    check(rt.alloc(), TIES, ordered)
+}
+
+const TURNS: &str = "\
+faults | 10000>1000c*9 10010>10014*8 1000c>10014*2 10004>10010*2 = 1 0 2 3 4 5 6
+faults | 10000>10014*9 1000c>10010*8 10000>1000c*2 10004>10010*2 = 3 0 1 2 4 5 6
+faults | 10000>10010*9 1000c>10014*8 10010>1000c*3 = 0 2 1 3 4 5 6
+faults | 10000>1002c*9 10004>10024*8 10008>1001c*7 10024>1001c*3 = 6 0 5 4 1 2 3
+faults | 10000>10010*2 1000c>10014*2 10018>10000 = 2 0 3 1 4 5 6";
+
+#[test]
+fn groups_turn_so_that_their_heaviest_edge_is_short(rt: HostRuntime) -> Result<(), Fail> {
+    check(rt.alloc(), TURNS, ordered)
+}
