@@ -21,7 +21,8 @@ pub fn guest_file(alloc: Global, count: u32) -> Result<Items<u8>, NoMemory>
     ensures { IfOk result (IsGuest count) }
 {
     let program = generate(alloc, count)?;
-    make_elf(alloc, &program)
+    let bytes = make_elf(alloc, &program)?;
+    Ok(bytes)
 }
 
 // Some turns, a snapshot, and code moved by it.
