@@ -317,12 +317,12 @@ fn a_generated_guest_runs_with_no_files(rt: HostRuntime) -> Result<(), Fail> {
 // Its code moves twenty times: the status, what is printed, the report and the last line.
 const GENERATED: &str = "\
 0|18000
-|real 55584 layout 0
+|real 60531 layout 0
 snaps 20 attempts 20 done 20 refused 0 retired 18
 sites 1 slots 8
-layout 19 0x13000 129
-layout 20 0x13204 129
-hart 0 live 0x10128 0x10128
+layout 19 0x13000 128
+layout 20 0x13200 128
+hart 0 live 0x10100 0x10100
 hart 1 ended
 hart 2 ended
 hart 3 ended
