@@ -30,6 +30,9 @@ fn planned(alloc: Global, image: &Image, case: &str) -> Result<String, Fail> {
     for word in case.split_whitespace() {
         note(&mut ring, word);
     }
+    if ring.len() > 1000 {
+        return Err(Fail::new("too many"));
+    }
     let profile = profile_of(alloc, &[ring])?;
     let plan = plan_of(alloc, image, &profile)?;
     Ok(plan_text(alloc, &plan)?)
