@@ -533,11 +533,7 @@ const JUMPS: &str = "\
 ";
 
 /// The transfer of a step of a hart, if it makes one.
-fn transfer(
-    machine: &mut Machine,
-    image: &Image,
-    h: u32,
-) -> Result<Option<(u64, u64)>, Fail> {
+fn transfer(machine: &mut Machine, image: &Image, h: u32) -> Result<Option<(u64, u64)>, Fail> {
     if machine.outcome().is_some() || !machine.is_live(h) || h >= machine.made() {
         return Ok(None);
     }
