@@ -7,6 +7,7 @@ pub mod fault;
 pub mod files;
 pub mod items;
 pub mod memory;
+pub mod pace;
 pub mod range;
 pub mod real;
 pub mod sink;
