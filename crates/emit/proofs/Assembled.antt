@@ -19,7 +19,7 @@ use Rattle.blocks.specs.declared.word.Word.{Word}
 use Rattle.blocks.specs.declared.run.Run.{Run}
 use Rattle.blocks.specs.Faults.{fault_of}
 use Rattle.blocks.specs.Blocks.{runs_of}
-use Rattle.blocks.specs.Sound.{Begins, BeginsInside, AreRuns, IsSound}
+use Rattle.blocks.specs.Sound.{Begins, BeginsInside, AreRuns}
 use Rattle.blocks.specs.Sound as found
 use Rattle.blocks.proofs.Soundness.{sound}
 use Rattle.plans.specs.declared.plan.Moved.{Moved}

@@ -1,5 +1,5 @@
 -- How a call ends whose devices can't fail.
-use Rattle.std.proofs.Common.{◌≡◌, ◌≢◌, ℕ, List, Option, Some, Result, Ok, Err, inl, inr, ap, subst, ◌∙◌}
+use Rattle.std.proofs.Common.{◌≡◌, ◌≢◌, ℕ, List, Some, Result, Ok, Err, inl, inr, ap, subst}
 use Rattle.std.specs.Prelude.{◌⊎◌}
 use Rattle.oc_base.specs.Outside.{Disk, Rose}
 use Rattle.top_call.specs.Call.{AllDone, Excused, unread, unwritten, out_of_memory}

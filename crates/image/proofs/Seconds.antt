@@ -1,8 +1,7 @@
 -- The second words of pairs, found by their first.
-use Rattle.std.proofs.Common.{◌≡◌, ℕ, ◌+◌, ◌-◌, ◌<◌, ◌≤◌, Bool, true, false, eqb, List, Option, Some, None, refl, sym, ◌∙◌, arith}
+use Rattle.std.proofs.Common.{◌≡◌, ℕ, ◌+◌, ◌-◌, ◌<◌, ◌≤◌, false, List, Option, ◌∙◌, arith}
 use Rattle.std.specs.Prelude.{◌==◌, is_some}
-use Rattle.std.specs.List.{list_any, position}
-use Rattle.std.specs.Option.{option_copied}
+use Rattle.std.specs.List.{position}
 use Rattle.std.proofs.lemmas.Bool.Decides.{nat_tests}
 use Rattle.std.proofs.lemmas.List.Folds.{list_any_none}
 use Rattle.std.proofs.lemmas.Bool.{ne_eqb}

@@ -1,10 +1,10 @@
 -- The plan of a profile has no fault, and is the only one.
-use Rattle.std.proofs.Common.{◌≡◌, ◌≢◌, ℕ, zero, suc, ◌+◌, ◌<◌, ◌≤◌, Bool, true, false, List, [], ◌∷◌, ◌++◌, length, map, get_or, take, refl, sym, ap, subst, ◌∙◌, arith}
+use Rattle.std.proofs.Common.{◌≡◌, ◌≢◌, ℕ, suc, ◌+◌, ◌<◌, false, List, [], ◌∷◌, ◌++◌, length, map, get_or, take, refl, sym, ap, subst, ◌∙◌, arith}
 use Rattle.std.specs.Prelude.{All, AllPairs, None, ◌↔◌}
 use Rattle.std.proofs.lemmas.List.{get_or-map, length-map, take_more}
 use Rattle.image.specs.Picture.{Picture}
 use Rattle.blocks.specs.declared.run.Block.{Block}
-use Rattle.blocks.specs.Blocks.{blocks_of, block_of, runs_of}
+use Rattle.blocks.specs.Blocks.{blocks_of}
 use Rattle.blocks.specs.Faults.{fault_of}
 use Rattle.plans.specs.declared.plan.Moved.{Moved}
 use Rattle.plans.specs.Plans.{moved_func}

@@ -1,7 +1,7 @@
 -- An order by chains is one of all blocks.
-use Rattle.std.proofs.Common.{◌≡◌, ℕ, zero, suc, ◌+◌, ◌<◌, ◌≤◌, Bool, true, false, cond, not, List, [], ◌∷◌, ◌++◌, length, map, refl, sym, ap, subst, ◌∙◌, arith}
+use Rattle.std.proofs.Common.{◌≡◌, ℕ, suc, ◌+◌, ◌≤◌, Bool, true, false, not, List, [], ◌∷◌, ◌++◌, length, refl, sym, ap, ◌∙◌, arith}
 use Rattle.std.specs.Prelude.{◌==◌, ◌&&◌, ◌||◌, Contains, if◌then◌else◌}
-use Rattle.std.specs.List.{filter, flat_map, list_any, range_with_len, sum_by}
+use Rattle.std.specs.List.{filter, list_any, range_with_len, sum_by}
 use Rattle.std.proofs.lemmas.Bool.{and_parts, eqb-true}
 use Rattle.std.proofs.lemmas.List.Sorted.{sum_by-IsPermutation}
 use Rattle.std.proofs.lemmas.List.Sums.{sum_by-append}
@@ -9,7 +9,7 @@ use Rattle.blocks.specs.declared.run.Block.{Block}
 use Rattle.branch_ring.specs.declared.counted.Counted.{Counted}
 use Rattle.plans.specs.Orders.{IsOrder}
 use Rattle.place_blocks.specs.Edges.{Edge, weight}
-use Rattle.place_blocks.specs.Chains.{begins, ends, can_join, chain_of, go_on, join, Joins}
+use Rattle.place_blocks.specs.Chains.{begins, ends, can_join, chain_of, join, Joins}
 use Rattle.place_blocks.specs.Orders.{singles, IsChain}
 use Rattle.placer.proofs.Totals.{at, total, total-flat, total-alone, Once, Hold, first, taken_out, gone_on, range_once}
 use Rattle.placer.proofs.Ordered.{order_of}

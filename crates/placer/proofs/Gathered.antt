@@ -1,6 +1,6 @@
 -- Rows that were put into a map, and what is there then.
-use Rattle.std.proofs.Common.{◌≡◌, ℕ, zero, suc, ◌+◌, ◌-◌, ◌<◌, ◌≤◌, ◌^◌, Bool, true, false, cond, List, [], ◌∷◌, length, map, get_or, take, drop, drop-cons, refl, sym, ap, subst, ◌∙◌, ◌⊎◌, inl, inr, add-one, arith}
-use Rattle.std.specs.Prelude.{◌==◌, ◌&&◌, ◌||◌, ◌↔◌, All, AllPairs, Contains, Option, Some, None, is_some, nat_le, nat_lt, sum_by, if◌then◌else◌}
+use Rattle.std.proofs.Common.{◌≡◌, ℕ, ◌+◌, ◌-◌, ◌<◌, ◌≤◌, Bool, true, false, cond, List, [], ◌∷◌, length, map, get_or, take, drop, drop-cons, refl, sym, ap, subst, ◌∙◌, ◌⊎◌, inl, inr, add-one, arith}
+use Rattle.std.specs.Prelude.{◌==◌, ◌&&◌, ◌||◌, ◌↔◌, AllPairs, Contains, Option, Some, None, is_some, nat_le, nat_lt, sum_by, if◌then◌else◌}
 use Rattle.std.specs.BTreeMap.{BTreeMap, is_at, IsOrdered}
 use Rattle.std.specs.List.{AllWithin}
 use Rattle.std.specs.List.Sorted.{IsNonDecreasingBy, IsPermutation}

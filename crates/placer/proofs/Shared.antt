@@ -1,9 +1,8 @@
 -- The order of a function's blocks is the same for the pairs of a profile that touch the function.
-use Rattle.std.proofs.Common.{◌≡◌, ℕ, zero, suc, ◌+◌, ◌<◌, ◌≤◌, Bool, true, false, cond, List, [], ◌∷◌, length, map, get_or, refl, sym, ap, subst, ◌∙◌, ◌⊎◌, inl, inr, arith}
-use Rattle.std.specs.Prelude.{◌==◌, ◌&&◌, ◌||◌, All, AllPairs, Contains, Some, None, slice_get, nat_le, nat_lt, sum_by, if◌then◌else◌}
+use Rattle.std.proofs.Common.{◌≡◌, ℕ, ◌<◌, ◌≤◌, Bool, true, false, List, [], ◌∷◌, length, refl, sym, ap, subst, ◌∙◌, ◌⊎◌, inl, inr, arith}
+use Rattle.std.specs.Prelude.{◌&&◌, ◌||◌, All, AllPairs, Contains, Some, None, slice_get, nat_le, nat_lt, sum_by}
 use Rattle.std.specs.List.{list_any}
 use Rattle.std.proofs.lemmas.Bool.{and_from, and_parts, eqb-true, le-leb, leb-true, lt-ltb, ltb-true, or_left, or_right}
-use Rattle.std.proofs.lemmas.List.{get_or-map, length-map}
 use Rattle.std.proofs.lemmas.List.Sums.{sum_by-cons}
 use Rattle.std.proofs.lemmas.Option.{slice_get_cases}
 use Rattle.finite.proofs.Searching.{tail_pairs}
@@ -13,7 +12,7 @@ use Rattle.blocks.specs.declared.run.Block.{Block}
 use Rattle.branch_ring.specs.declared.counted.Counted.{Counted}
 use Rattle.branch_ring.specs.Profiles.{Precedes}
 use Rattle.branch_ring.proofs.Ascending.{in_head, in_none, in_tail, past_head, precedes_once, split_at}
-use Rattle.place_blocks.specs.Edges.{Edge, holds, starts, leaves, enters, falls_along, counted_if, count_of, weight}
+use Rattle.place_blocks.specs.Edges.{Edge, holds, starts, leaves, enters, counted_if, count_of, weight}
 use Rattle.place_blocks.specs.Chains.{Joins}
 use Rattle.place_blocks.specs.Orders.{singles, heat, IsLaid, IsChain}
 use Rattle.placer.specs.Shares.{touches, IsShare}

@@ -1,10 +1,8 @@
 -- A replacement from a world has one result.
-use Rattle.std.proofs.Common.{◌≡◌, ◌≢◌, ◌⊎◌, inl, inr, ◌<◌, ◌≤◌, ◌+◌, ◌*◌, ◌^◌, ℕ, zero, suc, Bool, true, false, List, [], ◌∷◌, length, map, refl, sym, ap, subst, ◌∙◌, arith}
+use Rattle.std.proofs.Common.{◌≡◌, ◌≢◌, ◌⊎◌, inl, inr, ◌<◌, ◌≤◌, ◌+◌, ◌*◌, ◌^◌, ℕ, zero, suc, true, false, List, [], ◌∷◌, length, refl, sym, ap, subst, ◌∙◌, arith}
 use Rattle.std.specs.Prelude.{Option, Some, None, IfSome, IsSome, All, AllPairs, slice_get, is_some}
 use Rattle.std.proofs.lemmas.List.Elements.{All-tail}
 use Rattle.std.proofs.lemmas.Bool.{cases_lt, false≢true}
-use Rattle.rv_isa.specs.declared.instr.ImmOp.TheVariants.{Addi}
-use Rattle.rv_isa.specs.declared.instr.Instr.TheVariants as instr
 use Rattle.image.specs.declared.ranges.TextRange.{TextRange}
 use Rattle.image.specs.Texts.{word_at}
 use Rattle.image.specs.Picture.{Picture}
@@ -24,14 +22,14 @@ use Rattle.emit.specs.declared.entry.Made.TheVariants.{Same, Jump, Branch, High,
 use Rattle.patcher.specs.declared.goal.Goal.{Goal}
 use Rattle.patcher.specs.declared.goal.Goal.TheVariants as goal
 use Rattle.patcher.specs.Goals.{goal_of, goal_at, goal_in, site_goal, start_in, IsMade}
-use Rattle.patcher.specs.Patched.{IsSet, IsPatchedText, IsPatchedLayout, ArePatched, joined}
+use Rattle.patcher.specs.Patched.{IsSet, IsPatchedText, IsPatchedLayout, ArePatched}
 use Rattle.patcher.specs.Reach as reach
-use Rattle.patcher.specs.Texts.{text_span, AreTexts}
+use Rattle.patcher.specs.Texts.{AreTexts}
 use Rattle.patcher.proofs.Spans.{are_texts}
 use Rattle.region.specs.Free.{fit}
 use Rattle.sched_log.specs.declared.facts.Refusal.{Refusal}
 use Rattle.sched_log.specs.declared.facts.Refusal.TheVariants as refusal
-use Rattle.world.specs.Worlds.{Replaced, IsSound}
+use Rattle.world.specs.Worlds.{Replaced}
 use Rattle.world.specs.Replacing.{size_of, IsNew, no_layout, layout_at, IsOutOfReach, in_layout, in_call, Refuses, IsReplaced, Replaces, over, done, refused, refused_as}
 use Rattle.play.proofs.OneWord.{one_decoded}
 use Rattle.play.proofs.OneText.{same_items, get_below, same_text}

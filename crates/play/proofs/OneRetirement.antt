@@ -1,9 +1,9 @@
 -- A retirement of a world has one result.
-use Rattle.std.proofs.Common.{◌≡◌, true, false, is_some, sym, ap, ◌∙◌}
+use Rattle.std.proofs.Common.{◌≡◌, true, false, sym, ap, ◌∙◌}
 use Rattle.std.proofs.lemmas.Bool.{false≢true}
 use Rattle.retire.proofs.LeastSet.{one_list}
 use Rattle.world.specs.Worlds.{Replaced}
-use Rattle.world.specs.Retiring.{without, freed, IsRetired, Retires, over, done}
+use Rattle.world.specs.Retiring.{without, freed, Retires, over, done}
 
 pub one_retirement : (w u v : Replaced) → Retires w u → Retires w v → u ≡ v
 one_retirement w u v (over e is) (over f is') = is ∙ sym is'

@@ -34,7 +34,7 @@ use Rattle.world.specs.Runs.{Atom, a_step, a_real_step, a_snap, a_replacement, a
 use Rattle.play.specs.Events.{stretch, harts_in, stretched, turns, Obeys, Plays}
 use Rattle.play.specs.Schedule as original
 use Rattle.play.proofs.Laws.{Stands, Laws}
-use Rattle.play.proofs.ReadyNext.{step_unmoved, real_unmoved, AreSteps, steps_are, reals_are, turns_are, run_unmoved, retired_image, snapped_image, event_image}
+use Rattle.play.proofs.ReadyNext.{step_unmoved, real_unmoved, AreSteps, steps_are, reals_are, turns_are, retired_image, snapped_image, event_image}
 
 -- what the original machine does meanwhile is its run of the harts of the real steps
 meanwhile : (k : Stepped) (p : Picture) (h : ℕ) (o : State) → original_after k p h o ≡ original_run p (of_real k h) o

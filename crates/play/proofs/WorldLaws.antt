@@ -17,7 +17,7 @@ use Rattle.sim_laws.specs.declared.stepped.Stepped.TheVariants as kind
 use Rattle.sim_laws.specs.Steps.{original_after, is_layout}
 use Rattle.sim_laws.proofs.Orderly.{replaced_orderly, start_orderly}
 use Rattle.world.specs.Worlds.{Replaced, Related, started, kind_of, step_of, code_of}
-use Rattle.world.specs.Replacing.{IsReplaced, Replaces, over, done, refused}
+use Rattle.world.specs.Replacing.{Replaces, over, done, refused}
 use Rattle.world.specs.Retiring.{Retires}
 use Rattle.world.specs.Retiring as retiring
 use Rattle.world.specs.Runs.{until_real, real_kind_of, real_step_of}

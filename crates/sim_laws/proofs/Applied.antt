@@ -3,7 +3,7 @@ use Rattle.std.proofs.Common.{◌≡◌, ◌≢◌, ℕ, ◌%◌, Bool, true, re
 use Rattle.std.specs.Prelude.{Option, Some, None, slice_get, slice_set}
 use Rattle.rv_isa.specs.declared.instr.Width.{Width}
 use Rattle.image.specs.Picture as image
-use Rattle.image.specs.Picture.{Picture, is_second}
+use Rattle.image.specs.Picture.{Picture}
 use Rattle.link_tags.specs.declared.value.Tag.TheVariants.{Link}
 use Rattle.link_tags.specs.declared.value.Value.{Value}
 use Rattle.link_tags.specs.Values.{plain}

@@ -10,7 +10,7 @@ use Rattle.rv_isa.specs.Decoded.{decoded}
 use Rattle.image.specs.declared.ranges.TextRange.{TextRange}
 use Rattle.image.specs.Texts.{covers, text_end}
 use Rattle.image.specs.Picture as image
-use Rattle.image.specs.Picture.{Picture, IsText, is_second}
+use Rattle.image.specs.Picture.{Picture, IsText}
 use Rattle.link_tags.specs.declared.value.Value.{Value}
 use Rattle.link_tags.specs.Values.{plain}
 use Rattle.hart.specs.declared.hart.Hart.{Hart}

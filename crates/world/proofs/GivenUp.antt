@@ -1,13 +1,11 @@
 -- The code of what is left once some layouts are given up.
-use Rattle.std.proofs.Common.{◌≡◌, ◌≢◌, ℕ, zero, suc, ◌+◌, ◌*◌, ◌<◌, ◌≤◌, Bool, true, false, not, List, [], ◌∷◌, length, get_or, refl, sym, ap, ◌∙◌, subst, inl, inr, arith}
-use Rattle.std.specs.Prelude.{ℤ, ◌&&◌, ◌⊎◌, All, AllPairs, Contains, Option, Some, None, IsSome, is_some, slice_get, if◌then◌else◌}
-use Rattle.std.specs.Option.{option_map, option_or}
-use Rattle.std.specs.List.{Any}
+use Rattle.std.proofs.Common.{◌≡◌, ℕ, zero, suc, ◌<◌, Bool, true, false, not, List, [], ◌∷◌, length, refl, sym, ap, ◌∙◌, subst, arith}
+use Rattle.std.specs.Prelude.{◌&&◌, All, AllPairs, Contains, Option, Some, None, is_some, slice_get, if◌then◌else◌}
+use Rattle.std.specs.Option.{option_map}
 use Rattle.std.proofs.lemmas.Option.{slice_get_within, get_or_from_slice_get}
 use Rattle.image.specs.declared.ranges.TextRange.{TextRange}
 use Rattle.image.specs.Texts.{word_at}
 use Rattle.image.specs.Picture.{Picture}
-use Rattle.layout.specs.declared.point.Point.{Point}
 use Rattle.layout.specs.declared.point.Point.TheVariants.{Start}
 use Rattle.layout.specs.Laid.{Laid}
 use Rattle.layout.specs.Apart.{LieApart, Covers, LiesIn}

@@ -1,6 +1,6 @@
 -- Each live code pointer is among the addresses that are looked up.
-use Rattle.std.proofs.Common.{◌≡◌, ℕ, zero, suc, ◌+◌, ◌-◌, ◌*◌, ◌<◌, ◌==◌, Bool, true, false, List, [], ◌∷◌, ◌++◌, length, get_or, drop, map, refl, sym, ap, ◌∙◌, subst, arith}
-use Rattle.std.specs.Prelude.{◌⊎◌, Contains, Option, Some, None, slice_get, if◌then◌else◌}
+use Rattle.std.proofs.Common.{◌≡◌, ℕ, zero, suc, ◌+◌, ◌-◌, ◌*◌, ◌==◌, Bool, true, false, List, [], ◌∷◌, ◌++◌, get_or, drop, map, refl, sym, ap, ◌∙◌, subst, arith}
+use Rattle.std.specs.Prelude.{Contains, Option, Some, None, slice_get, if◌then◌else◌}
 use Rattle.std.specs.List.{filter_map, flat_map, cons_option}
 use Rattle.std.specs.Ordering.{nat_cmp, eq_by_cmp}
 use Rattle.std.specs.FinMap.{contains_key-keys, keys}
@@ -10,12 +10,10 @@ use Rattle.std.proofs.lemmas.List.Elements.{Contains-append_left, Contains-appen
 use Rattle.std.proofs.lemmas.List.Folds.{Any-from_list_any}
 use Rattle.finite.specs.Maps.{Places, contains, items}
 use Rattle.link_tags.specs.declared.value.Value.{Value}
-use Rattle.link_tags.specs.declared.value.Tag.{Tag}
-use Rattle.link_tags.specs.declared.value.Tag.TheVariants.{Plain, Link}
-use Rattle.link_tags.specs.Values.{plain, is_link}
-use Rattle.guest_mem.specs.Memory.{Memory, number_at}
+use Rattle.link_tags.specs.declared.value.Tag.TheVariants.{Link}
+use Rattle.link_tags.specs.Values.{plain}
+use Rattle.guest_mem.specs.Memory.{number_at}
 use Rattle.guest_mem.specs.Access.{links_of}
-use Rattle.hart.specs.declared.hart.Hart.{Hart}
 use Rattle.hart.specs.Harts.{reg}
 use Rattle.machine.specs.Harts.{has_ended}
 use Rattle.machine.specs.States.{State}

@@ -1,31 +1,27 @@
 -- Each live code pointer leads to code, in a state that stands for one of the original machine.
-use Rattle.std.proofs.Common.{◌≡◌, ◌≢◌, ℕ, ◌+◌, ◌*◌, ◌==◌, Bool, true, false, refl, sym, ap, ◌∙◌, subst, inl, inr}
-use Rattle.std.specs.Prelude.{ℤ, ◌⊎◌, Option, Some, None, IsSome, is_some, slice_get}
+use Rattle.std.proofs.Common.{◌≡◌, ℕ, ◌+◌, ◌*◌, true, false, refl, sym, ap, ◌∙◌, subst, inl, inr}
+use Rattle.std.specs.Prelude.{ℤ, Option, Some, None, IsSome, is_some, slice_get}
 use Rattle.std.proofs.lemmas.Bool.{cases_eq}
-use Rattle.rv_isa.specs.Decoded.{decoded}
 use Rattle.rv_isa.specs.declared.instr.Instr.{Instr}
 use Rattle.rv_isa.specs.declared.instr.Instr.TheVariants as instr
 use Rattle.rv_isa.specs.declared.instr.ImmOp.TheVariants as immop
-use Rattle.image.specs.Targets.{target, made_by}
+use Rattle.image.specs.Targets.{target}
 use Rattle.image.specs.Picture.{Picture}
 use Rattle.finite.specs.Maps.{contains}
 use Rattle.link_tags.specs.declared.value.Value.{Value}
-use Rattle.link_tags.specs.declared.value.Tag.{Tag}
-use Rattle.link_tags.specs.declared.value.Tag.TheVariants.{Plain, Link}
-use Rattle.link_tags.specs.Values.{plain}
+use Rattle.link_tags.specs.declared.value.Tag.TheVariants.{Link}
 use Rattle.guest_mem.specs.Memory.{number_at}
 use Rattle.hart.specs.declared.hart.Hart.{Hart}
-use Rattle.hart.specs.declared.hart.Status.{Status}
 use Rattle.hart.specs.Harts.{reg}
 use Rattle.layout.specs.declared.point.Point.{Point}
 use Rattle.layout.specs.declared.point.Point.TheVariants.{Start, Hop, Mid}
 use Rattle.layout.specs.Points.{Code, StandsFor, at_start, at_hop, read}
-use Rattle.layout.specs.Rows.{IsKept, MovedRow, StartRow, no_word, unread, kept, address_in_place, address_moved, jump, site, jump_register, call_second, branch, branch_inverted, HopRow, MidRow, Renders}
+use Rattle.layout.specs.Rows.{IsKept, StartRow, no_word, unread, kept, address_in_place, address_moved, jump, site, jump_register, call_second, branch, branch_inverted, HopRow, MidRow, Renders}
 use Rattle.layout.proofs.TextRows.{read_is}
 use Rattle.machine.specs.Harts.{has_ended}
 use Rattle.machine.specs.States.{State}
 use Rattle.sim_laws.specs.Changes.{IsPointer, at_pc, in_register, in_memory}
-use Rattle.sim_laws.specs.Related.{Both, found, neither, Lands, ValuesRelated, both_plain, both_links, PlacesRelated, whole, half, HartsRelated, GoOnAlike, StatesRelated}
+use Rattle.sim_laws.specs.Related.{Both, found, neither, ValuesRelated, both_plain, both_links, PlacesRelated, whole, half, HartsRelated, GoOnAlike, StatesRelated}
 use Rattle.world.specs.Retiring.{JumpsTo, by_jal, by_branch, LeadsToCode}
 
 some_is : {X : Type 0} (o : Option X) (x : X) → o ≡ Some x → IsSome o

@@ -1,12 +1,12 @@
 -- Layouts are given up one by one, the last first.
-use Rattle.std.proofs.Common.{◌≡◌, ℕ, suc, ◌+◌, ◌-◌, ◌<◌, ◌≤◌, List, [], ◌∷◌, length, get_or, drop, drop-cons, refl, sym, ap, ◌∙◌, subst, arith}
+use Rattle.std.proofs.Common.{◌≡◌, ℕ, suc, ◌-◌, ◌<◌, ◌≤◌, List, [], ◌∷◌, length, get_or, drop, drop-cons, refl, sym, ap, ◌∙◌, subst, arith}
 use Rattle.std.specs.Prelude.{All, Option, Some, None, slice_get}
 use Rattle.std.specs.List.{remove}
 use Rattle.std.proofs.lemmas.List.Elements.{All-head, All-tail, All-drop}
 use Rattle.std.proofs.lemmas.Option.{slice_get-get_or}
 use Rattle.oc_base.specs.declared.range.Range.{Range}
 use Rattle.layout.specs.Laid.{Laid}
-use Rattle.world.specs.Retiring.{without, freed, given_back, range_of, AreSpread}
+use Rattle.world.specs.Retiring.{without, freed, given_back, AreSpread}
 use Rattle.world.proofs.LeftOver.{Climbs, climbs_drop, is_there, read_before, lengths_without}
 use Rattle.world.proofs.Spread.{spread_again}
 

@@ -1,38 +1,33 @@
 -- What nothing refers to is no live code pointer's and no call's, so what is left renders the image.
-use Rattle.std.proofs.Common.{◌≡◌, ◌≢◌, ℕ, ◌+◌, ◌*◌, ◌<◌, ◌==◌, Bool, true, false, List, [], ◌∷◌, ◌++◌, length, get_or, refl, sym, ap, ◌∙◌, subst, inl, inr, arith}
-use Rattle.std.specs.Prelude.{ℤ, ◌⊎◌, ◌↔◌, All, AllPairs, Contains, Option, Some, None, find, slice_get, if◌then◌else◌}
+use Rattle.std.proofs.Common.{◌≡◌, ℕ, ◌+◌, ◌<◌, Bool, true, false, List, ◌++◌, length, get_or, refl, sym, ap, ◌∙◌, subst, arith}
+use Rattle.std.specs.Prelude.{ℤ, All, AllPairs, Contains, Option, Some, None, slice_get, if◌then◌else◌}
 use Rattle.std.specs.List.{filter_map, Any}
-use Rattle.std.specs.Option.{option_map, option_and_then}
-use Rattle.std.proofs.lemmas.Bool.{eqb-true}
+use Rattle.std.specs.Option.{option_map}
 use Rattle.std.proofs.lemmas.List.Elements.{Contains-append_left, Contains-append_right, Contains-get_or}
 use Rattle.std.proofs.lemmas.Option.{slice_get_within, get_or_from_slice_get, slice_get_read}
 use Rattle.rv_isa.specs.declared.instr.Instr.{Instr}
 use Rattle.rv_isa.specs.declared.instr.Instr.TheVariants.{Jal}
 use Rattle.image.specs.declared.ranges.TextRange.{TextRange}
 use Rattle.image.specs.declared.ranges.Aim.{Aim}
-use Rattle.image.specs.Aims.{aim_place}
 use Rattle.image.specs.Targets.{target}
 use Rattle.image.specs.Texts.{word_at}
 use Rattle.image.specs.Picture.{Picture}
-use Rattle.layout.specs.declared.point.Point.{Point}
 use Rattle.layout.specs.declared.point.Point.TheVariants.{Start}
-use Rattle.layout.specs.Laid.{Laid, item_at, point_in}
-use Rattle.layout.specs.Apart.{LieApart, Covers, LiesIn}
-use Rattle.layout.specs.Points.{Code, Here, here_word, here_point, here_in, live_at, in_range, read, aim_func, site_of, second_of, start_of}
-use Rattle.layout.specs.Rows.{GoesTo, CallsAim, Renders}
+use Rattle.layout.specs.Laid.{Laid, item_at}
+use Rattle.layout.specs.Apart.{LieApart, LiesIn}
+use Rattle.layout.specs.Points.{Here, here_point, live_at, in_range, read, site_of, second_of, start_of}
 use Rattle.layout.specs.Alone.{NamesCalls, called_at}
 use Rattle.layout.proofs.CallWords.{bound, site_listed, second_listed}
 use Rattle.layout.proofs.TextRows.{read_same}
 use Rattle.patcher.proofs.Joined.{here_back}
 use Rattle.retire.specs.References.{PointInto, jump_of, aim_of, aims_of, CallsInto, Refers, by_pointer, by_call, AreUnreferenced}
 use Rattle.layout.proofs.Apart.{from_there}
-use Rattle.machine.specs.States.{State}
-use Rattle.sim_laws.specs.Changes.{IsPointer, GivesUp, StaysClear, LeavesCalls, LeavesPointers}
+use Rattle.sim_laws.specs.Changes.{StaysClear, LeavesCalls}
 use Rattle.world.specs.Worlds.{code_in}
-use Rattle.world.specs.Retiring.{pcs_of, links_held, text_aim, text_aims, without}
-use Rattle.world.proofs.LeftOver.{Climbs, climbs}
-use Rattle.world.proofs.GivenUp.{Stands, stands, lies_in, one_place, gone_at, gives_up, Lost, lost_at, not_lost, still}
-use Rattle.world.proofs.Held.{in_chosen, pointer_held}
+use Rattle.world.specs.Retiring.{text_aim, text_aims}
+use Rattle.world.proofs.LeftOver.{climbs}
+use Rattle.world.proofs.GivenUp.{Stands, stands, lies_in, gone_at, Lost, lost_at, not_lost}
+use Rattle.world.proofs.Held.{in_chosen}
 
 -- ---- small things
 any_of : {X : Type 0} (P : X → Type 0) (xs : List X) (x : X) → Contains xs x → P x → Any P xs

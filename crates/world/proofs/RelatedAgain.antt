@@ -1,9 +1,8 @@
 -- A world after a replacement stands for what it stood for.
-use Rattle.std.proofs.Common.{◌≡◌, ℕ, ◌*◌, Bool, true, false, List, length, refl, sym, ap, ◌∙◌, subst}
-use Rattle.std.specs.Prelude.{Option, Some, None, IfSome, Result, Ok, Err}
+use Rattle.std.proofs.Common.{◌≡◌, ℕ, ◌*◌, Bool, true, false, List, sym, ap, ◌∙◌, subst}
+use Rattle.std.specs.Prelude.{None, IfSome, Result, Ok, Err}
 use Rattle.finite.specs.Maps.{contains}
 use Rattle.image.specs.Texts.{word_at}
-use Rattle.layout.specs.Laid.{Laid}
 use Rattle.layout.specs.Points.{Code, StandsFor}
 use Rattle.guest_mem.specs.Memory.{number_at}
 use Rattle.machine.specs.States.{State}

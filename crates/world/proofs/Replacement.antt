@@ -1,5 +1,5 @@
 -- What a replacement makes of a world, from what was worked out.
-use Rattle.std.proofs.Common.{◌≡◌, ℕ, ◌^◌, ◌<◌, Bool, true, false, List, [], ◌∷◌, get_or, refl, sym, ap, ◌∙◌, subst}
+use Rattle.std.proofs.Common.{◌≡◌, ℕ, ◌^◌, ◌<◌, Bool, false, List, get_or, refl, sym, ap, ◌∙◌, subst}
 use Rattle.std.specs.Prelude.{Option, Some, None, IfSome, All, Result, Ok, Err}
 use Rattle.oc_base.specs.declared.range.Range.{Range}
 use Rattle.image.specs.declared.ranges.TextRange.{TextRange}

@@ -1,9 +1,8 @@
 -- A world after a retirement: what its code keeps, and what it stands for.
-use Rattle.std.proofs.Common.{◌≡◌, ℕ, zero, suc, ◌+◌, ◌-◌, ◌*◌, ◌^◌, ◌<◌, ◌≤◌, Bool, true, false, List, [], ◌∷◌, ◌++◌, length, get_or, refl, sym, ap, ◌∙◌, subst, inl, inr, arith}
-use Rattle.std.specs.Prelude.{ℤ, ◌⊎◌, ◌&&◌, nat_le, nat_lt, All, AllPairs, Contains, Option, Some, None, Result, Ok, Err, OnOk, slice_get}
+use Rattle.std.proofs.Common.{◌≡◌, ℕ, ◌+◌, ◌-◌, ◌*◌, ◌^◌, ◌<◌, ◌≤◌, Bool, true, false, List, ◌++◌, length, get_or, refl, sym, ◌∙◌, subst, inl, inr, arith}
+use Rattle.std.specs.Prelude.{◌⊎◌, nat_le, nat_lt, All, Contains, Some, Result, Ok, Err}
 use Rattle.std.proofs.lemmas.Bool.{and_parts, leb-true, ltb-true}
-use Rattle.std.proofs.lemmas.List.Elements.{All-head, All-tail, Contains-append_left, Contains-append_right}
-use Rattle.std.proofs.lemmas.Option.{slice_get-get_or, slice_get_read, get_or_from_slice_get}
+use Rattle.std.proofs.lemmas.List.Elements.{Contains-append_left, Contains-append_right}
 use Rattle.oc_base.specs.declared.fault.NoMemory.{NoMemory}
 use Rattle.oc_base.specs.declared.range.Range.{Range}
 use Rattle.image.specs.declared.ranges.TextRange.{TextRange}
@@ -11,9 +10,8 @@ use Rattle.image.specs.Targets.{target}
 use Rattle.image.specs.Picture.{Picture, IsKept}
 use Rattle.layout.specs.declared.point.Point.TheVariants.{Start}
 use Rattle.layout.specs.Laid.{Laid, IsLaid}
-use Rattle.layout.specs.Apart.{LieApart, covers}
 use Rattle.layout.specs.Points.{in_range}
-use Rattle.layout.specs.Rows.{GoesTo, CallsAim}
+use Rattle.layout.specs.Rows.{GoesTo}
 use Rattle.layout.proofs.TextRows.{read_same}
 use Rattle.layout.specs.Alone.{InRegion, NamesCalls}
 use Rattle.machine.specs.States.{State}
@@ -23,7 +21,7 @@ use Rattle.sim_laws.specs.Changes.{GivesUp, StaysClear, LeavesCalls, LeavesPoint
 use Rattle.sim_laws.proofs.GivingUp.{renders_on, pointers_on}
 use Rattle.sim_laws.proofs.Change.{kept_by_change}
 use Rattle.world.specs.Worlds.{Replaced, code_in, code_of, IsSound, IsWorld, Related}
-use Rattle.world.specs.Retiring.{text_aims, pcs_of, links_held, held_by, without, range_of, freed, given_back, AreSpread, IsRetired, RetiresAs, Retires, over, done, LeadsToCode}
+use Rattle.world.specs.Retiring.{text_aims, pcs_of, links_held, held_by, without, freed, AreSpread, IsRetired, RetiresAs, Retires, over, done, LeadsToCode}
 use Rattle.world.proofs.LeftOver.{climbs, all_without, lengths_without, at_most}
 use Rattle.world.proofs.Spread.{few}
 use Rattle.world.proofs.OneByOne.{spread_left}

@@ -1,6 +1,6 @@
 -- What a replacement makes keeps what each world keeps, whatever layouts are live.
-use Rattle.std.proofs.Common.{◌≡◌, ℕ, ◌+◌, ◌*◌, ◌%◌, ◌<◌, ◌≤◌, not, List, [], ◌∷◌, length, get_or, refl, sym, ap, ◌∙◌, subst, inl, inr, arith}
-use Rattle.std.specs.Prelude.{Option, Some, None, IfSome, ◌&&◌, ◌||◌, ◌⊎◌, All, AllPairs}
+use Rattle.std.proofs.Common.{◌≡◌, ℕ, ◌+◌, ◌*◌, ◌%◌, ◌<◌, not, List, [], ◌∷◌, length, get_or, refl, sym, ap, ◌∙◌, subst, inl, inr, arith}
+use Rattle.std.specs.Prelude.{Option, Some, None, IfSome, ◌&&◌, ◌||◌, All, AllPairs}
 use Rattle.std.specs.List.{list_any}
 use Rattle.std.proofs.lemmas.List.{length_push}
 use Rattle.std.proofs.lemmas.List.Quantifiers.{all_pairs_push}
@@ -18,7 +18,7 @@ use Rattle.patcher.proofs.Keeps.{renders_on, calls_aim, all_joined}
 use Rattle.region.specs.Free.{Rises, is_free}
 use Rattle.sim_laws.specs.Codes.{GoesToWord}
 use Rattle.world.specs.declared.counts.Counts.{Counts}
-use Rattle.world.specs.Worlds.{code_in, more, IsSound}
+use Rattle.world.specs.Worlds.{more, IsSound}
 use Rattle.world.specs.Replacing.{IsFit, numbered, left_by}
 use Rattle.world.proofs.FreeRanges.{taken_whole, rest_more, left_rises, left_addresses, apart_from_lives}
 

@@ -15,7 +15,7 @@ use Rattle.oc_base.specs.declared.range.Range.{Range}
 use Rattle.layout.specs.Laid.{Laid, IsLaid}
 use Rattle.layout.specs.Apart.{LieApart, covers}
 use Rattle.layout.specs.Points.{in_range}
-use Rattle.region.specs.Free.{Rises, is_free, range, put_before, put_here, put_in, given}
+use Rattle.region.specs.Free.{is_free, range, put_before, put_here, put_in, given}
 use Rattle.region.proofs.Giving.{given_rises, given_addresses}
 use Rattle.world.specs.Retiring.{AreSpread, range_of}
 use Rattle.world.proofs.FreeRanges.{AreWhole, same_test, covers_is}

@@ -1,5 +1,5 @@
 -- What a retirement makes of a world. Source: this project; the outline is OCOLOS (Zhang et al., MICRO 2022).
-use Rattle.std.specs.Prelude.{◌≡◌, ◌↔◌, ℕ, ℤ, ◌+◌, ◌*◌, ◌%◌, ◌<◌, ◌≤◌, Bool, true, false, not, ◌&&◌, List, [], ◌∷◌, ◌++◌, length, map, drop, slice_get, All, AllPairs, Contains, is_some, IsSome, Option, Some, None, Result, Ok, Err, if◌then◌else◌}
+use Rattle.std.specs.Prelude.{◌≡◌, ℕ, ℤ, ◌+◌, ◌*◌, ◌%◌, ◌<◌, ◌≤◌, Bool, true, false, not, ◌&&◌, List, [], ◌∷◌, ◌++◌, length, map, drop, slice_get, All, AllPairs, is_some, IsSome, Option, Some, None, Result, Ok, Err, if◌then◌else◌}
 use Rattle.std.specs.List.{filter_map, flat_map, list_any, remove}
 use Rattle.oc_base.specs.declared.fault.NoMemory.{NoMemory}
 use Rattle.oc_base.specs.declared.range.Range.{Range}

@@ -1,5 +1,5 @@
 -- A machine whose code is moved while it runs: its state, what its code always keeps, and a step of it. Source: this project.
-use Rattle.std.specs.Prelude.{◌≡◌, ℕ, ◌+◌, ◌-◌, ◌*◌, ◌%◌, ◌^◌, ◌<◌, min, ◌&&◌, not, nat_le, nat_lt, Bool, List, [], length, All, AllPairs, Option, Some, if◌then◌else◌}
+use Rattle.std.specs.Prelude.{◌≡◌, ℕ, ◌+◌, ◌-◌, ◌%◌, ◌^◌, ◌<◌, min, ◌&&◌, not, List, [], length, All, AllPairs, Option, Some, if◌then◌else◌}
 use Rattle.std.specs.List.{list_any}
 use Rattle.std.specs.Option.{option_map}
 use Rattle.oc_base.specs.declared.range.Range.{Range}

@@ -1,4 +1,4 @@
-use Rattle.std.proofs.Common.{◌<◌, length, subst, sym, arith}
+use Rattle.std.proofs.Common.{subst, sym, arith}
 use Rattle.std.specs.Prelude.{AllPairs}
 use Rattle.branch_ring.specs.Profiles.{Precedes}
 use Rattle.placer.proofs.Sources.{froms_rise, none_from, is_tested}

@@ -1,6 +1,6 @@
-use Rattle.std.proofs.Common.{length, map, sym, ap, ◌∙◌, arith}
+use Rattle.std.proofs.Common.{length, map, ◌∙◌, arith}
 use Rattle.plans.specs.Plans.{moved_func}
-use Rattle.placer.specs.Chosen.{is_chosen, chosen}
+use Rattle.placer.specs.Chosen.{is_chosen}
 use Rattle.placer.proofs.Accepted.{has_no_fault, is_plan, chosen_order}
 use Rattle.placer.proofs.Chosen.{filter_rises, filter_below}
 use Rattle.placer.proofs.plan.plan_of.Goals as goal

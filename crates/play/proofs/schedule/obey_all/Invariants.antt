@@ -1,4 +1,4 @@
-use Rattle.std.proofs.Common.{◌≡◌, drop}
+use Rattle.std.proofs.Common.{drop}
 use Rattle.world.specs.Worlds.{Replaced}
 use Rattle.play.specs.Events.{Played}
 use Rattle.play.specs.Ready.{AreReady}

@@ -1,4 +1,4 @@
-use Rattle.std.proofs.Common.{◌≡◌, subst}
+use Rattle.std.proofs.Common.{subst}
 use Rattle.world.specs.Worlds.{Replaced}
 use Rattle.play.specs.Events.{Played}
 use Rattle.play.proofs.schedule.perform.Goals as goal

@@ -1,4 +1,4 @@
-use Rattle.std.proofs.Common.{◌≡◌, ◌-◌, replicate}
+use Rattle.std.proofs.Common.{◌-◌, replicate}
 use Rattle.world.specs.Worlds.{Replaced}
 use Rattle.world.specs.Runs.{a_step}
 use Rattle.play.specs.Events.{Runs}

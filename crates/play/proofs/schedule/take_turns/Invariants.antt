@@ -1,4 +1,4 @@
-use Rattle.std.proofs.Common.{◌≡◌, ◌-◌}
+use Rattle.std.proofs.Common.{◌-◌}
 use Rattle.world.specs.Worlds.{Replaced}
 use Rattle.play.specs.Events.{turns, Runs}
 use Rattle.play.proofs.schedule.take_turns.Given as goal

@@ -1,7 +1,7 @@
-use Rattle.std.proofs.Common.{ℕ, ◌+◌, ◌-◌, ◌<◌, ◌≤◌, List, length, sym, ap, ◌∙◌, subst, arith}
+use Rattle.std.proofs.Common.{ℕ, ◌-◌, ◌<◌, sym, ap, ◌∙◌, subst, arith}
 use Rattle.std.specs.Prelude.{slice_index_or, slice_get}
 use Rattle.std.specs.List.{remove}
-use Rattle.world.specs.Retiring.{AreSpread, given_back}
+use Rattle.world.specs.Retiring.{given_back}
 use Rattle.world.proofs.LeftOver.{climbs}
 use Rattle.world.proofs.OneByOne.{next_there, next_spread, next_length, next_without, next_freed}
 use Rattle.world.proofs.giving_up.give_up.Goals as goal

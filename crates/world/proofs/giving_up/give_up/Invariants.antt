@@ -1,4 +1,4 @@
-use Rattle.std.proofs.Common.{◌≡◌, ℕ, ◌≤◌, drop, length}
+use Rattle.std.proofs.Common.{◌≡◌, ◌≤◌, drop, length}
 use Rattle.world.specs.Retiring.{without, freed}
 use Rattle.world.proofs.giving_up.give_up.Given as goal
 

@@ -1,6 +1,6 @@
 use Rattle.std.proofs.Common.{sym, ◌∙◌}
 use Rattle.world.specs.Worlds.{code_in}
-use Rattle.world.proofs.LinkAt.{origin_as, no_link, no_start, other_start, own_start}
+use Rattle.world.proofs.LinkAt.{origin_as, other_start, own_start}
 use Rattle.world.proofs.slots.own_start.Goals as goal
 
 pub returns-then-origin-start : goal.returns-then-origin-start

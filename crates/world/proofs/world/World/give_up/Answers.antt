@@ -1,11 +1,10 @@
-use Rattle.std.proofs.Common.{◌≡◌, ℕ, ◌<◌, ◌≤◌, List, length, sym, ap, ◌∙◌, subst, arith}
+use Rattle.std.proofs.Common.{◌≡◌, ◌<◌, List, length, sym, ap, ◌∙◌, subst, arith}
 use Rattle.std.specs.Prelude.{All}
-use Rattle.oc_base.specs.declared.range.Range.{Range}
 use Rattle.layout.specs.Laid.{Laid}
 use Rattle.layout.specs.Bases.{ArePlaces}
 use Rattle.region.specs.Space.{Space}
-use Rattle.world.specs.Worlds.{Replaced, IsSound}
-use Rattle.world.specs.Retiring.{AreSpread, held_by, freed, without}
+use Rattle.world.specs.Worlds.{Replaced}
+use Rattle.world.specs.Retiring.{held_by, freed}
 use Rattle.world.proofs.Found.{shorter}
 use Rattle.world.proofs.LeftOver.{climbs}
 use Rattle.world.proofs.Referring.{within_all}

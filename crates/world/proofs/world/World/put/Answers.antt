@@ -1,6 +1,5 @@
-use Rattle.std.proofs.Common.{◌≡◌, ℕ, ◌+◌, ◌^◌, ◌<◌, ◌≤◌, List, length, sym, ap, ◌∙◌, subst, arith}
+use Rattle.std.proofs.Common.{◌≡◌, ℕ, ◌^◌, ◌<◌, List, length, sym, ap, ◌∙◌, subst, arith}
 use Rattle.std.specs.Prelude.{All, true}
-use Rattle.std.specs.Vec.{vec_capacity}
 use Rattle.guest_mem.specs.Memory.{is_link_at}
 use Rattle.layout.specs.Laid.{Laid}
 use Rattle.layout.specs.Bases.{ArePlaces}
@@ -10,7 +9,7 @@ use Rattle.patcher.proofs.Patching.{fits}
 use Rattle.sim_laws.specs.Changes.{with_links, with_memory}
 use Rattle.world.specs.Worlds.{Replaced, IsWorld, code_of}
 use Rattle.world.specs.Replacing.{IsPlacement, slots_sent, numbered, left_by}
-use Rattle.world.proofs.Found.{same_places, joined_long}
+use Rattle.world.proofs.Found.{joined_long}
 use Rattle.world.proofs.Replacement.{put_sound, put_is, is_replaced, finish_is}
 use Rattle.world.proofs.SentSlots.{sent_links}
 use Rattle.world.proofs.world.World.put.Goals as goal

@@ -1,8 +1,5 @@
-use Rattle.std.proofs.Common.{ℕ, ◌<◌, ◌^◌, ◌++◌, List, length, ap, ◌∙◌, subst}
-use Rattle.std.specs.Prelude.{AllPairs}
-use Rattle.layout.specs.Laid.{Laid}
-use Rattle.retire.specs.References.{AreUnreferenced}
-use Rattle.world.specs.Worlds.{Replaced, IsWorld}
+use Rattle.std.proofs.Common.{◌++◌, ap, ◌∙◌}
+use Rattle.world.specs.Worlds.{Replaced}
 use Rattle.world.specs.Retiring.{pcs_of, links_held, text_aims, held_by}
 use Rattle.world.proofs.Spread.{few}
 use Rattle.world.proofs.Retirement.{spread_of, same_unreferenced, few_gone}
