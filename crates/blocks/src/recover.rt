@@ -83,7 +83,8 @@ fn block_of(run: &Run) -> Block
     }
 }
 
-fn without_words(alloc: Global, runs: &[Run]) -> Result<Vec<Block>, OutOfMemory>
+/// The blocks of runs of words.
+pub fn without_words(alloc: Global, runs: &[Run]) -> Result<Vec<Block>, OutOfMemory>
     ensures { IfOk result (λ blocks. blocks.items ≡ map block_of runs.now) }
 {
     let mut blocks = Vec::with_capacity(alloc, runs.len())?;

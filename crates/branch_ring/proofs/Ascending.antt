@@ -19,7 +19,7 @@ pub in_none : {X : Type 0} (e : X) → Contains [] e → ⊥
 in_none e h = omega (arith, h.1)
 
 -- each of one is in the other
-abbrev Within : {X : Type 0} → List X → List X → Type 0
+abbrev pub Within : {X : Type 0} → List X → List X → Type 0
 Within {X} xs ys = (e : X) → Contains xs e → Contains ys e
 
 module _ {X : Type 0} (R : X → X → Type 0) (asym : (x y : X) → R x y → R y x → ⊥) where

@@ -12,7 +12,8 @@ use Rattle.place_funcs.specs.Edges.{edge}
 use Rattle.place_funcs.specs.Groups.{name, alone, between, edge_of, Leads}
 use Rattle.place_funcs.specs.Links.{lone, top_of, AreLone, Tells}
 use Rattle.place_funcs.specs.Rows.{is_of, share_of, IsGiven}
-use Rattle.place_funcs.proofs.Members.{in_head, in_none, split_at, from_map, to_map}
+use Rattle.branch_ring.proofs.Ascending.{in_head, in_none, split_at}
+use Rattle.place_funcs.proofs.Members.{from_map, to_map}
 use Rattle.place_funcs.proofs.LinkLaws.{alike, differ}
 use Rattle.place_funcs.proofs.Standing.{rise_alone, flat_alone}
 use Rattle.place_funcs.proofs.Totals.{of_in, in_of, total_edge, total_none}

@@ -19,7 +19,7 @@ use Rattle.place_funcs.specs.Edges.{edge, count, count_from, is_held}
 use Rattle.place_funcs.specs.Groups.{name, IsClosest}
 use Rattle.place_funcs.specs.Grouping.{named, ranks, group_of, IsGrouped}
 use Rattle.place_funcs.specs.Rows.{IsGiven}
-use Rattle.place_funcs.proofs.Members.{in_head, in_tail}
+use Rattle.branch_ring.proofs.Ascending.{in_head, in_tail}
 use Rattle.place_funcs.proofs.Standing.{Above, Rise}
 use Rattle.place_funcs.proofs.Ranked.{last_is}
 

@@ -10,7 +10,8 @@ use Rattle.std.proofs.lemmas.List.Sums.{sum_by-append, sum_by-cons}
 use Rattle.place_funcs.specs.Groups.{name, with_joined, Weighed, Leads, turned, joined, between, edge_of, Merges}
 use Rattle.place_funcs.specs.declared.link.Link.{Link}
 use Rattle.place_funcs.specs.Links.{is_ahead, both, links_after, IsLink, Tells, TellAll, AreOfGroups, Keeps}
-use Rattle.place_funcs.proofs.Members.{in_none, split_at, to_map, to_filter}
+use Rattle.branch_ring.proofs.Ascending.{in_none, split_at}
+use Rattle.place_funcs.proofs.Members.{to_map, to_filter}
 use Rattle.place_funcs.proofs.OneMerge.{turned_sides, AreNamed, from_with, joined_name, names_kept}
 
 -- j has the functions of a and b

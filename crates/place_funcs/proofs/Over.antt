@@ -13,7 +13,8 @@ use Rattle.std.proofs.lemmas.Map.Views.{btree_map_get_iff}
 use Rattle.std.specs.Ordering.{nat_cmp}
 use Rattle.place_funcs.specs.declared.link.Link.{Link}
 use Rattle.place_funcs.specs.Links.{both, links_after, link_at, links_of, moved, names_cmp, second_name, AreSmall}
-use Rattle.place_funcs.proofs.Members.{from_map, from_filter, to_map, to_filter, split_at, in_tail}
+use Rattle.branch_ring.proofs.Ascending.{split_at, in_tail}
+use Rattle.place_funcs.proofs.Members.{from_map, from_filter, to_map, to_filter}
 use Rattle.place_funcs.proofs.LinkLaws.{differ, alike, same_true}
 
 pub names_total : IsTotalOrder names_cmp

@@ -14,7 +14,8 @@ use Rattle.std.proofs.lemmas.List.Concat.{flat_map-cons}
 use Rattle.std.proofs.lemmas.List.Sorted.{IsPermutation-refl, IsPermutation-sym, IsPermutation-trans, IsPermutation-append_left, IsPermutation-append_right, IsPermutation-append_comm}
 use Rattle.place_funcs.specs.Groups.{name, alone, joined, with_joined, AreTwo}
 use Rattle.place_funcs.specs.Grouping.{group_at, named}
-use Rattle.place_funcs.proofs.Members.{in_none, in_head, in_tail, split_at, to_filter}
+use Rattle.branch_ring.proofs.Ascending.{in_none, in_head, in_tail, split_at}
+use Rattle.place_funcs.proofs.Members.{to_filter}
 use Rattle.place_funcs.proofs.LinkLaws.{differ, alike, same_true, joint}
 use Rattle.place_funcs.proofs.OneMerge.{joined_name}
 

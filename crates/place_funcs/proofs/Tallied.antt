@@ -16,7 +16,8 @@ use Rattle.std.proofs.lemmas.List.Elements.{Contains-get_or}
 use Rattle.std.proofs.lemmas.List.Folds.{list_any-append}
 use Rattle.place_funcs.specs.Rows.{leaving}
 use Rattle.place_funcs.specs.Counts.{has_pair, counted_in, is_same}
-use Rattle.place_funcs.proofs.Members.{in_head, in_tail, in_none, split_at, from_filter, to_filter}
+use Rattle.branch_ring.proofs.Ascending.{in_head, in_tail, in_none, split_at}
+use Rattle.place_funcs.proofs.Members.{from_filter, to_filter}
 use Rattle.place_funcs.proofs.LinkLaws.{alike, same_true}
 use Rattle.place_funcs.proofs.Places.{at_names}
 

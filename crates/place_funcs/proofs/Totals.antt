@@ -9,7 +9,7 @@ use Rattle.branch_ring.specs.declared.counted.Counted.{Counted}
 use Rattle.branch_ring.specs.Profiles.{count_of}
 use Rattle.place_funcs.specs.Edges.{is_in, is_start, count_to, calls, edge}
 use Rattle.place_funcs.specs.Rows.{is_of, is_callee, leaving, share, share_of, IsGiven}
-use Rattle.place_funcs.proofs.Members.{in_head, in_tail, in_none, split_at}
+use Rattle.branch_ring.proofs.Ascending.{in_head, in_tail, in_none, split_at}
 use Rattle.place_funcs.proofs.LinkLaws.{differ, alike, same_true}
 use Rattle.place_funcs.proofs.Raised.{and_false}
 use Rattle.place_funcs.proofs.UnderWay.{AreEdges}

@@ -11,7 +11,8 @@ use Rattle.std.proofs.lemmas.List.Sorted.{Contains-permutation, IsPermutation-sy
 use Rattle.place_funcs.specs.declared.link.Link.{Link}
 use Rattle.place_funcs.specs.Groups.{name, alone, joined, with_joined, between, Merges, EndsAfter}
 use Rattle.place_funcs.specs.Links.{links_after, AreSmall, IsFirst, IsLink, Tells, TellAll, AreOfGroups, Keeps}
-use Rattle.place_funcs.proofs.Members.{in_none, split_at, name_in}
+use Rattle.branch_ring.proofs.Ascending.{in_none, split_at}
+use Rattle.place_funcs.proofs.Members.{name_in}
 use Rattle.place_funcs.proofs.LinkLaws.{no_edge, kept}
 use Rattle.place_funcs.proofs.Queue.{AreFirst, nearest, done}
 use Rattle.std.specs.Ordering.{nat_cmp}

@@ -1,37 +1,15 @@
 //! The blocks of a function that can be read.
 
-ghost use Rattle.std.specs.Prelude.{◌≡◌, ◌<◌, length, map, Some, None, IfOk, is_none, if◌then◌else◌};
-ghost use Rattle.blocks.specs.Blocks.{block_of, blocks_of};
+ghost use Rattle.std.specs.Prelude.{◌≡◌, ◌<◌, length, Some, None, IfOk, is_none, if◌then◌else◌};
+ghost use Rattle.blocks.specs.Blocks.{blocks_of};
 ghost use Rattle.blocks.specs.Faults.{fault_of};
 
 use blocks::fault::Unreadable;
 use blocks::index::FuncIndex;
-use blocks::run::{Block, Blocks, Run};
+use blocks::recover::without_words;
+use blocks::run::Blocks;
 use oc_base::fault::NoMemory;
-use oc_base::range::Range;
 use std::alloc::Global;
-
-fn block_of(run: &Run) -> Block
-    ensures { result ≡ block_of run.now }
-{
-    Block {
-        range: Range {
-            from: run.from,
-            to: run.to,
-        },
-        falls: run.falls,
-    }
-}
-
-fn without_words(alloc: Global, runs: &[Run]) -> Result<Vec<Block>, NoMemory>
-    ensures { IfOk result (λ blocks. blocks.items ≡ map block_of runs.now) }
-{
-    let mut blocks = Vec::with_capacity(alloc, runs.len())?;
-    for run in runs {
-        blocks.push(block_of(run))?;
-    }
-    Ok(blocks)
-}
 
 /// The blocks of a function, or `None` where it can't be cut into blocks.
 #[tactic(auto, unfolding(blocks::specs::Blocks::blocks_of))]

@@ -1,12 +1,9 @@
 -- A run whose code is moved is one of the original machine.
-use Rattle.std.proofs.Common.{◌≡◌, ℕ, zero, suc, ◌+◌, Bool, true, false, not, List, [], ◌∷◌, ◌++◌, length, take, drop, replicate, refl, sym, ap, subst, ◌∙◌, arith}
-use Rattle.std.specs.Prelude.{Option, Some, None, ◌==◌, ◌&&◌, is_some, slice_get, sum_by, if◌then◌else◌}
+use Rattle.std.proofs.Common.{◌≡◌, ℕ, zero, suc, ◌+◌, Bool, true, false, List, [], ◌∷◌, ◌++◌, length, take, drop, replicate, refl, sym, ap, subst, ◌∙◌, arith}
+use Rattle.std.specs.Prelude.{Some, ◌&&◌, is_some, slice_get, sum_by, if◌then◌else◌}
 use Rattle.std.specs.List.{range_with_len}
 use Rattle.std.proofs.lemmas.List.Sums.{sum_by-cons}
 use Rattle.std.specs.Option.{option_map}
-use Rattle.std.proofs.lemmas.Bool.{eq-eqb}
-use Rattle.rv_isa.specs.declared.instr.Instr.{Instr}
-use Rattle.rv_isa.specs.declared.instr.Instr.TheVariants as instr
 use Rattle.image.specs.Picture.{Picture}
 use Rattle.plans.specs.declared.plan.Moved.{Moved}
 use Rattle.layout.specs.declared.point.Point.TheVariants.{Start}
@@ -21,11 +18,12 @@ use Rattle.sched_log.specs.declared.event.Event.{Event}
 use Rattle.sched_log.specs.declared.event.Event.TheVariants.{Steps, Real, Till, Snap, Replace, Given, Retire}
 use Rattle.sim_laws.specs.declared.stepped.Stepped.{Stepped}
 use Rattle.sim_laws.specs.declared.stepped.Stepped.TheVariants as kind
-use Rattle.sim_laws.specs.Origins.{is_moved_address, is_layout_point, is_layout_step}
+use Rattle.sim_laws.specs.Origins.{is_layout_point, is_layout_step}
 use Rattle.sim_laws.specs.Related.{Both}
 use Rattle.sim_laws.specs.Steps.{original_after, is_layout, stepped}
 use Rattle.sim_laws.proofs.HartLists.{no_left, no_right}
 use Rattle.world.specs.Worlds.{Replaced, kind_of, step_of, code_of}
+use Rattle.world.proofs.Following.{never_moved}
 use Rattle.world.specs.Retiring.{without, Retires}
 use Rattle.world.specs.Retiring as retiring
 use Rattle.world.specs.Records.{Snaps}
@@ -50,16 +48,6 @@ module _ {A B : Type 0} {R : A → B → Type 0} where
   same_length (x ∷ xs) (y ∷ ys) both = ap suc (same_length xs ys (λ k. both (suc k)))
 
 -- ---- a world in which no layout is live
--- no word is moved to its own place
-never_moved : (a : ℕ) (o : Option Instr) → is_moved_address a a o ≡ false
-never_moved a None = refl
-never_moved a (Some (instr.Auipc rd imm)) = by_rd (rd == 0) (a == a) (eq-eqb a a refl)
-  where
-    by_rd : (x y : Bool) → y ≡ true → (not x && not y) ≡ false
-    by_rd true y e = refl
-    by_rd false y e = ap not e
-never_moved a (Some i) = refl
-
 no_layout_at : (w : Replaced) (a : ℕ) → w.lives ≡ [] → is_layout_step (code_of w) a ≡ false
 unfolding is_layout_step live_at
 no_layout_at w a none = by_region (in_range w.image.region a)

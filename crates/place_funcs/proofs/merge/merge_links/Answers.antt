@@ -2,7 +2,7 @@ use Rattle.std.proofs.Common.{◌≡◌, ℕ, ◌+◌, List, map, drop, sym, sub
 use Rattle.std.specs.Prelude.{slice_index, Contains}
 use Rattle.std.proofs.lemmas.List.{drop_more, drop_all}
 use Rattle.place_funcs.specs.Links.{link_at, links_after, links_of, moved, second_name}
-use Rattle.place_funcs.proofs.Members.{in_head}
+use Rattle.branch_ring.proofs.Ascending.{in_head}
 use Rattle.place_funcs.proofs.Over.{IsOnTheWay, all_neighbours, all_over, begun, begun_small, one_on, only_neighbours, small_on, small_same}
 use Rattle.place_funcs.proofs.merge.merge_links.Goals as goal
 
