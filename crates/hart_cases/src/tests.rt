@@ -5,14 +5,13 @@
 
 use elf_make::make::make_elf;
 use elf_read::read::read_elf;
-use guest_mem::fault::Access;
 use guest_mem::paged::PagedMem;
 use guest_mem::store::GuestStore;
 use hart::hart::Status;
 use image::picture::Image;
 use link_tags::origins::Same;
-use link_tags::value::Value;
 use machine::machine::Machine;
+use machine::outcome::Outcome;
 use relocs::build::build_image;
 use rv_asm::assemble::assemble;
 use rv_isa::instr::Width;
@@ -338,10 +337,24 @@ fn shown(alloc: Global, status: Status) -> Result<String, AllocError> {
     }
 }
 
+/// How a run ended, if it did.
+fn ending(alloc: Global, outcome: Option<Outcome>) -> Result<String, AllocError> {
+    match outcome {
+        None => String::from_str(alloc, "runs"),
+        Some(Outcome::Exit(status)) => format!(in alloc; "exit {status}"),
+        Some(Outcome::Trap { cause, pc, value }) => {
+            format!(in alloc; "trap {cause} at {pc:x} value {value:x}")
+        }
+        Some(Outcome::Stalled) => String::from_str(alloc, "stalled"),
+        Some(Outcome::HartsFull) => String::from_str(alloc, "harts full"),
+        Some(_) => String::from_str(alloc, "ended otherwise"),
+    }
+}
+
 /// What became of a run.
 fn state_of(alloc: Global, machine: &Machine) -> Result<String, AllocError> {
-    let outcome = machine.outcome();
-    let mut text = format!(in alloc; "{outcome:?} ")?;
+    let mut text = ending(alloc, machine.outcome())?;
+    text.push(' ')?;
     for byte in machine.output(1) {
         text.push(char::from(*byte))?;
     }
@@ -388,15 +401,15 @@ fn play_all(alloc: Global, text: &str, cases: &str) -> Result<(), Fail> {
 }
 
 const HANDOVER_CASES: &str = "\
-0*13 = None  W11000L
-0*18 7*5 = None  W11000L
-0*13 1*8 = None  W11000L
-0*13 1*9 = None  LL
-0*13 1*20 = None  LE
-0*13 1*20 0*8 = None A LE
-0*13 1*20 0*30 = Some(Exit(7)) A EE
-0*5 1*9 0*8 = None  LL
-0*13 1*9 0*20 1*5 = Some(Exit(1)) A EE
+0*13 = runs  W11000L
+0*18 7*5 = runs  W11000L
+0*13 1*8 = runs  W11000L
+0*13 1*9 = runs  LL
+0*13 1*20 = runs  LE
+0*13 1*20 0*8 = runs A LE
+0*13 1*20 0*30 = exit 7 A EE
+0*5 1*9 0*8 = runs  LL
+0*13 1*9 0*20 1*5 = exit 1 A EE
 ";
 
 #[test]
@@ -405,7 +418,7 @@ fn a_hart_waits_until_it_is_woken(rt: HostRuntime) -> Result<(), Fail> {
 }
 
 const RESERVE_CASES: &str = "\
-0*10 1*2 0*10 1*1 0*10 1*1 0*10 1*1 0*10 1*2 0*10 1*1 0*10 1*1 0*10 1*5 0*10 1*4 0*10 = None 000111010 LL
+0*10 1*2 0*10 1*1 0*10 1*1 0*10 1*1 0*10 1*2 0*10 1*1 0*10 1*1 0*10 1*5 0*10 1*4 0*10 = runs 000111010 LL
 ";
 
 #[test]
@@ -414,7 +427,7 @@ fn accesses_of_others_take_a_reservation_away(rt: HostRuntime) -> Result<(), Fai
 }
 
 const OWN_WRITE_CASES: &str = "\
-0*20 = Some(Exit(1))  E
+0*20 = exit 1  E
 ";
 
 #[test]
@@ -423,8 +436,8 @@ fn the_system_takes_the_callers_reservation_too(rt: HostRuntime) -> Result<(), F
 }
 
 const MAPPING_CASES: &str = "\
-0*17 = None  L
-0*40 = Some(Trap { cause: 7, pc: 65608, value: 260038656 })  L
+0*17 = runs  L
+0*40 = trap 7 at 10048 value f7fe000  L
 ";
 
 #[test]
@@ -433,11 +446,11 @@ fn memory_is_mapped_and_given_up(rt: HostRuntime) -> Result<(), Fail> {
 }
 
 const STALLED_CASES: &str = "\
-0*13 = None  W11000L
-0*13 1*2 = None  W11000L
-0*13 1*4 = Some(Stalled)  W11000E
-0*6 1*4 = None  LE
-0*6 1*4 0*7 = Some(Stalled)  W11000E
+0*13 = runs  W11000L
+0*13 1*2 = runs  W11000L
+0*13 1*4 = stalled  W11000E
+0*6 1*4 = runs  LE
+0*6 1*4 0*7 = stalled  W11000E
 ";
 
 #[test]
@@ -446,9 +459,9 @@ fn a_run_stalls_where_all_that_are_left_wait(rt: HostRuntime) -> Result<(), Fail
 }
 
 const ENDING_CASES: &str = "\
-0*16 1*3 = None  W11000L
-0*16 1*4 = None  LE
-0*16 1*4 0*4 = Some(Exit(3))  EE
+0*16 1*3 = runs  W11000L
+0*16 1*4 = runs  LE
+0*16 1*4 0*4 = exit 3  EE
 ";
 
 #[test]
@@ -457,9 +470,9 @@ fn a_hart_that_ends_wakes_who_waits_for_it(rt: HostRuntime) -> Result<(), Fail> 
 }
 
 const ORDER_CASES: &str = "\
-0*10 1*7 2*7 = None  LW11000W11000
-0*10 1*7 2*7 0*6 = None  LLW11000
-0*10 2*7 1*7 0*6 = None  LW11000L
+0*10 1*7 2*7 = runs  LW11000W11000
+0*10 1*7 2*7 0*6 = runs  LLW11000
+0*10 2*7 1*7 0*6 = runs  LW11000L
 ";
 
 #[test]
@@ -468,10 +481,10 @@ fn the_longest_waiting_is_woken(rt: HostRuntime) -> Result<(), Fail> {
 }
 
 const REQUEUE_CASES: &str = "\
-0*10 1*7 2*7 = None  LW11000W11000
-0*10 1*7 2*7 0*8 = None  LLW11004
-0*10 1*7 2*7 0*11 = None  LLL
-0*10 2*7 1*7 0*8 = None  LW11004L
+0*10 1*7 2*7 = runs  LW11000W11000
+0*10 1*7 2*7 0*8 = runs  LLW11004
+0*10 1*7 2*7 0*11 = runs  LLL
+0*10 2*7 1*7 0*8 = runs  LW11004L
 ";
 
 #[test]
@@ -480,8 +493,8 @@ fn a_requeued_hart_waits_at_its_new_address(rt: HostRuntime) -> Result<(), Fail>
 }
 
 const MANY_CASES: &str = "\
-0*317 = None  LLLLLLLLLLLLLLLLLLLLLLLLLLLLLLLLLLLLLLLLLLLLLLLLLLLLLLLLLLLLLLLL
-0*1000 = Some(HartsFull)  LLLLLLLLLLLLLLLLLLLLLLLLLLLLLLLLLLLLLLLLLLLLLLLLLLLLLLLLLLLLLLLL
+0*317 = runs  LLLLLLLLLLLLLLLLLLLLLLLLLLLLLLLLLLLLLLLLLLLLLLLLLLLLLLLLLLLLLLLL
+0*1000 = harts full  LLLLLLLLLLLLLLLLLLLLLLLLLLLLLLLLLLLLLLLLLLLLLLLLLLLLLLLLLLLLLLLL
 ";
 
 #[test]
@@ -503,9 +516,12 @@ fn harts_and_links_can_be_set(rt: HostRuntime) -> Result<(), Fail> {
     Ok(())
 }
 
-/// The 4 bytes at an address, read from the pages.
-fn number_at(memory: &PagedMem, at: u64) -> Result<Value, Access> {
-    memory.load(at, Width::W, &Same)
+/// The number in the 4 bytes at an address, read from the pages.
+fn number_at(memory: &PagedMem, at: u64) -> Option<u64> {
+    match memory.load(at, Width::W, &Same) {
+        Ok(value) => Some(value.number),
+        Err(_) => None,
+    }
 }
 
 #[test]
@@ -513,10 +529,10 @@ fn the_pages_of_a_machine_have_what_its_harts_stored(rt: HostRuntime) -> Result<
     let alloc = rt.alloc();
     let image = image_of(alloc, HANDOVER)?;
     let mut machine = Machine::start(alloc, &image, Vec::new(alloc))?;
-    assert_eq!(rt; number_at(machine.memory(), 0x11000), Ok(Value::plain(0)));
+    assert_eq!(rt; number_at(machine.memory(), 0x11000), Some(0));
     run(&mut machine, &image, "0*5 1*4")?;
-    assert_eq!(rt; number_at(machine.memory(), 0x11000), Ok(Value::plain(1)));
-    assert_eq!(rt; number_at(machine.memory(), 0), Err(Access::NoAccess));
+    assert_eq!(rt; number_at(machine.memory(), 0x11000), Some(1));
+    assert_eq!(rt; number_at(machine.memory(), 0), None);
     Ok(())
 }
 
