@@ -74,11 +74,11 @@ fn fetched_as(word: u32, point: Point) -> Fetched
 /// What is fetched in the region.
 // kept out of the loops of steps, in which most words come from text
 #[inline(never)]
-fn live_fetched(lives: &Lives, at: u64) -> Fetched
+fn live_fetched(lives: &Lives, recent: &mut usize, at: u64) -> Fetched
     requires { AreFound lives.now }
     ensures { result ≡ fetched_of (option_map both (live_at lives.now.layouts.items at)) }
 {
-    match live_both(lives, at) {
+    match live_both(lives, recent, at) {
         Some((word, point)) => fetched_as(word, point),
         None => Fetched::Nothing,
     }
@@ -96,14 +96,14 @@ fn word_as(word: Option<u32>) -> Fetched
 /// What is fetched at an address.
 #[inline(always)]
 #[tactic(auto, using(crate::proofs::Fetching::fetched_in_region, crate::proofs::Fetching::fetched_in_text))]
-fn fetch(image: &Image, text: &TextNow, lives: &Lives, at: u64) -> Fetched
+fn fetch(image: &Image, text: &TextNow, lives: &Lives, recent: &mut usize, at: u64) -> Fetched
     requires renders { Renders (code_in image.now text.now lives.now.layouts.items) }
     requires found { AreFound lives.now }
     ensures { result ≡ fetched_at (code_in image.now text.now lives.now.layouts.items) at }
 {
     image.kept();
     if is_in(image.region(), at) {
-        return live_fetched(lives, at);
+        return live_fetched(lives, recent, at);
     }
     word_as(text.word(at))
 }
@@ -131,6 +131,7 @@ fn step_live(
     image: &Image,
     text: &TextNow,
     lives: &Lives,
+    recent: usize,
     h: u32,
     word: Option<u32>,
 ) -> Result<Option<(u64, u64)>, NoMemory>
@@ -145,6 +146,7 @@ fn step_live(
     let points = Points {
         lives,
         region: image.region(),
+        recent,
     };
     let Ok(ran) = machine.step_fetched(image, &points, h, word) else {
         return Err(NoMemory);
@@ -167,6 +169,7 @@ pub fn other_step_in(
     image: &Image,
     text: &TextNow,
     lives: &Lives,
+    recent: &mut usize,
     h: u32,
 ) -> Result<Made, NoMemory>
     requires renders { Renders (code_in image.now text.now lives.now.layouts.items) }
@@ -188,14 +191,14 @@ pub fn other_step_in(
             transfer: None,
         });
     }
-    let fetched = fetch(image, text, lives, machine.hart(h).pc);
+    let fetched = fetch(image, text, lives, recent, machine.hart(h).pc);
     if is_layout_fetch(fetched) {
         return Ok(Made {
             kind: Stepped::Layout,
             transfer: None,
         });
     }
-    let Ok(transfer) = step_live(machine, image, text, lives, h, word_of(fetched)) else {
+    let Ok(transfer) = step_live(machine, image, text, lives, *recent, h, word_of(fetched)) else {
         return Err(NoMemory);
     };
     Ok(Made {

@@ -1,7 +1,7 @@
 //! What stands at an address of the live layouts.
 
-ghost use Rattle.std.specs.Prelude.{◌≡◌, ◌<◌, ◌≤◌, ◌+◌, length, OnOk};
-ghost use Rattle.std.specs.Option.{option_map};
+ghost use Rattle.std.specs.Prelude.{◌≡◌, ◌<◌, ◌≤◌, ◌+◌, length, slice_get, OnOk};
+ghost use Rattle.std.specs.Option.{option_map, option_and_then};
 ghost use Rattle.std.specs.Vec.{vec_capacity};
 ghost use Rattle.layout.specs.Bases.{ArePlaces};
 ghost use Rattle.layout.specs.Points.{in_range, here_in, live_at, here_word, here_point};
@@ -59,36 +59,58 @@ fn both_in(l: &Layout, at: u64) -> Option<(u32, Point)>
     Some((word, point))
 }
 
-/// The word that a live layout has at an address, and what it stands for.
-#[inline(always)]
-pub fn live_both(lives: &Lives, at: u64) -> Option<(u32, Point)>
+/// The same of the layout at a position, if there is one.
+fn both_at(layouts: &[Layout], position: usize, at: u64) -> Option<(u32, Point)>
+    ensures { result ≡ option_and_then (λ l. option_map both (here_in l at)) (slice_get layouts.now position) }
+{
+    both_in(layouts.get(position)?, at)
+}
+
+/// The word that a live layout has at an address, and what it stands for, by a search. The layout that may hold the address becomes the
+/// recent one.
+// rare after `live_both`, so kept out of its callers
+#[inline(never)]
+fn searched(lives: &Lives, recent: &mut usize, at: u64) -> Option<(u32, Point)>
     requires { AreFound lives.now }
     ensures { result ≡ option_map both (live_at lives.now.layouts.items at) }
 {
     let Some(k) = nearest(&lives.places, at) else {
         return None;
     };
+    *recent = k;
     both_in(&lives.layouts[k], at)
+}
+
+/// The same, where the layout at the position `recent` is tried before the search. It may be any number.
+#[inline(always)]
+pub fn live_both(lives: &Lives, recent: &mut usize, at: u64) -> Option<(u32, Point)>
+    requires { AreFound lives.now }
+    ensures { result ≡ option_map both (live_at lives.now.layouts.items at) }
+{
+    if let Some(found) = both_at(&lives.layouts, *recent, at) {
+        return Some(found);
+    }
+    searched(lives, recent, at)
 }
 
 /// The word that a live layout has at an address.
 #[tactic(auto, using(crate::proofs::Lives::word_alone))]
-pub fn live_word(lives: &Lives, at: u64) -> Option<u32>
+pub fn live_word(lives: &Lives, recent: &mut usize, at: u64) -> Option<u32>
     requires { AreFound lives.now }
     ensures { result ≡ option_map here_word (live_at lives.now.layouts.items at) }
 {
-    let (word, _) = live_both(lives, at)?;
+    let (word, _) = live_both(lives, recent, at)?;
     Some(word)
 }
 
 /// The original address of one of the region.
 #[inline(never)]
 #[tactic(auto, using(crate::proofs::Lives::point_alone))]
-fn live_origin(lives: &Lives, at: u64) -> u64
+fn live_origin(lives: &Lives, mut recent: usize, at: u64) -> u64
     requires { AreFound lives.now }
     ensures { result ≡ origin_of at (option_map here_point (live_at lives.now.layouts.items at)) }
 {
-    match live_both(lives, at) {
+    match live_both(lives, &mut recent, at) {
         Some((_, Point::Start(x))) => x,
         Some((_, Point::Hop(x))) => x,
         Some((_, Point::Mid(x))) => x,
@@ -108,6 +130,8 @@ pub fn is_in(r: Range, at: u64) -> bool
 pub struct Points<'a> {
     pub lives: &'a Lives,
     pub region: Range,
+    /// The position of the layout that is tried before the search. It may be any number.
+    pub recent: usize,
     ghost found: { AreFound lives.now },
 }
 
@@ -121,6 +145,6 @@ impl Origins for Points<'_> {
         if !is_in(self.region, at) {
             return at;
         }
-        live_origin(self.lives, at)
+        live_origin(self.lives, self.recent, at)
     }
 }

@@ -91,6 +91,7 @@ pub fn slots_sent(
     let points = Points {
         lives,
         region: image.region(),
+        recent: 0,
     };
     let links = machine.links(alloc)?;
     let aims = Aims::of(alloc, image, new)?;

@@ -154,7 +154,11 @@ pub fn hart_facts(
     let made = machine.made();
     let mut all = Vec::with_capacity(alloc, made as usize)?;
     for h in 0..made {
-        let points = Points { lives, region };
+        let points = Points {
+            lives,
+            region,
+            recent: 0,
+        };
         all.push(hart_fact(&points, machine.hart(h)))?;
     }
     Ok(all)

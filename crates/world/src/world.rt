@@ -49,6 +49,8 @@ pub struct World {
     image: Image,
     text: TextNow,
     lives: Lives,
+    /// The position of the layout in which a word was last found. It may be any number.
+    recent: usize,
     numbers: Vec<u64>,
     region: Region,
     machine: Machine,
@@ -115,6 +117,7 @@ impl World {
                 layouts: Vec::new(alloc),
                 places: Vec::new(alloc),
             },
+            recent: 0,
             numbers: Vec::new(alloc),
             region,
             machine,
@@ -207,8 +210,14 @@ impl World {
         ensures err { OnErr result (self.new ≡ self.old) }
     {
         self.kept();
-        let Ok(made) = other_step_in(&mut self.machine, &self.image, &self.text, &self.lives, h)
-        else {
+        let Ok(made) = other_step_in(
+            &mut self.machine,
+            &self.image,
+            &self.text,
+            &self.lives,
+            &mut self.recent,
+            h,
+        ) else {
             return Err(NoMemory);
         };
         if is_layout(made.kind) {
@@ -240,7 +249,7 @@ impl World {
         self.kept();
         let hart = self.machine.hart(h);
         let pc = hart.pc;
-        let led = led_by(live_word(&self.lives, pc), pc);
+        let led = led_by(live_word(&self.lives, &mut self.recent, pc), pc);
         let before = Before {
             led: Led {
                 rd: led.rd,
