@@ -26,7 +26,7 @@ none_is_taken words none = rw none refl
 pub taken_by : (a : App) (words : List (List ℕ)) → a ≡ command → (is_simple_and_free a ≡ true → fault_of a words ≡ []) → is_taken words ≡ true
 taken_by a words is none = none_is_taken words (subst (λ a. is_simple_and_free a ≡ true → fault_of a words ≡ []) is none simple)
 
-some_kind : (kinds : Kinds) (e : Error) → HasKind kinds e → (kind_of e ≡ OutOfMemory → ⊥) → (length kinds == 0) ≡ false
+pub some_kind : (kinds : Kinds) (e : Error) → HasKind kinds e → (kind_of e ≡ OutOfMemory → ⊥) → (length kinds == 0) ≡ false
 some_kind [] e (inl memory) other = absurd (other memory)
 some_kind [] e (inr nowhere) other = absurd nowhere
 some_kind (k ∷ kinds) e has other = ne_eqb (length (k ∷ kinds)) 0 (λ e. omega (arith, e))

@@ -11,8 +11,8 @@ use clap::{Arg, ArgAction, ArgMatches, Command};
 use oc_base::fault::NoMemory;
 use std::alloc::Global;
 
-// The command with one more option, `--name`, that takes a value.
-fn with_option<'a>(
+/// The command with one more option, `--name`, that takes a value.
+pub fn with_option<'a>(
     alloc: Global,
     command: Command<'a>,
     name: &'a str,

@@ -1,7 +1,7 @@
 //! The words of `ocolos_play`: two names of files or a guest to generate, and options, read as one simple command.
 #![tactic(auto)]
 
-mod command;
+pub mod command;
 mod number;
 mod region;
 pub mod words;

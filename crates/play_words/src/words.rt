@@ -48,8 +48,8 @@ pub enum WordsFault {
     NoMemory,
 }
 
-// The region of the option's value. Without the option there is none.
-fn region_in(value: Option<&str>) -> Option<Option<Range>>
+/// The region of the option's value. Without the option there is none.
+pub fn region_in(value: Option<&str>) -> Option<Option<Range>>
     ensures value { result ≡ region_in (option_map (λ v. v.now) value.entry) }
     ensures pages { IfSome result (λ region. IfSome region IsPaged) }
 {
@@ -62,9 +62,9 @@ fn region_in(value: Option<&str>) -> Option<Option<Range>>
     Some(Some(region))
 }
 
-// The number that a text writes, if it is from `least` to `most`.
+/// The number that a text writes, if it is from `least` to `most`.
 #[tactic(auto, unfolding(crate::specs::Words::number_within))]
-fn number_within(text: &str, least: u32, most: u32) -> Option<u32>
+pub fn number_within(text: &str, least: u32, most: u32) -> Option<u32>
     ensures value { result ≡ number_within least most text.now }
     ensures range { IfSome result (λ n. (least ≤ n) × (n ≤ most)) }
 {
@@ -116,8 +116,8 @@ fn guest_by(
     }
 }
 
-// A flag has the value `true` or `false`.
-fn is_used(value: Option<&str>) -> bool
+/// Whether a flag was used. Its value is `true` or `false`.
+pub fn is_used(value: Option<&str>) -> bool
     ensures { result ≡ is_used (option_map (λ v. v.now) value.entry) }
 {
     match value {
