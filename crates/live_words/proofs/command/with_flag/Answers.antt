@@ -1,0 +1,9 @@
+use Rattle.std.proofs.Common.{rules, ap, ◌≡◌, ◌∙◌}
+use Rattle.clap.specs.Words.{app_of, rule_of, with_rule}
+use Rattle.play_words.specs.Words.{flag}
+use Rattle.live_words.proofs.command.with_flag.Goals as goal
+
+pub returns : goal.returns
+returns c =
+    let is : rule_of c.action-arg.result ≡ flag c.args.name.now = search rules in
+    c.in_ok-arg.ensures.shape (search rules) ∙ ap (with_rule (app_of c.args.command)) is
