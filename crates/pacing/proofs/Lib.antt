@@ -1,0 +1,10 @@
+pub mod Bounded
+pub mod Clocked
+pub mod Growing
+pub mod Kept
+pub mod Listing
+pub mod Others
+pub mod Rotation
+pub mod Runs
+mod Samples
+pub mod Serves
