@@ -6,16 +6,10 @@ use Rattle.std.proofs.lemmas.List.Elements.{All-head, All-tail}
 use Rattle.sched_log.specs.declared.event.Event.{Event}
 use Rattle.sched_log.specs.declared.event.Event.TheVariants.{Steps, Real, Till, Snap, Replace, Given, Retire}
 use Rattle.pacing.specs.Logs.{is_snap, is_replace, steps_in, steps_of}
+use Rattle.pacing.specs.Readings.{NoSnap, NoReplace}
 use Rattle.pacing.specs.Clocks.{Clock, zero_clock, tick, clock_from, clock_of, reals}
 
--- no entry of these is a Snap, or a Replace
-abbrev pub NoSnap : List Event → Type 0
-NoSnap es = All (λ e. is_snap e ≡ false) es
-
-abbrev pub NoReplace : List Event → Type 0
-NoReplace es = All (λ e. is_replace e ≡ false) es
-
-clock_append : (c : Clock) (xs ys : List Event) → clock_from c (xs ++ ys) ≡ clock_from (clock_from c xs) ys
+pub clock_append : (c : Clock) (xs ys : List Event) → clock_from c (xs ++ ys) ≡ clock_from (clock_from c xs) ys
 unfolding clock_from
 clock_append c [] ys = refl
 clock_append c (x ∷ xs) ys = clock_append (tick c x) xs ys

@@ -2,6 +2,7 @@ pub mod Bounded
 pub mod Clocked
 pub mod Growing
 pub mod Kept
+pub mod Paces
 pub mod Listing
 pub mod Others
 pub mod Rotation

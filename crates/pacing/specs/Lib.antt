@@ -4,5 +4,6 @@ pub mod Keeping
 pub mod Limits
 pub mod Logs
 pub mod Pacing
+pub mod Readings
 pub mod Serving
 pub mod Waiters

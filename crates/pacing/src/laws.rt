@@ -1,16 +1,17 @@
 //! The laws of logs that grow, for callers' proofs. The functions do nothing.
-ghost use Rattle.std.specs.Prelude.{◌≡◌, ◌≢◌, ℕ, ◌+◌, ◌*◌, ◌%◌, ◌<◌, ◌≤◌, Bool, true, false, is_some, List, [], ◌∷◌, ◌++◌, length, All, Option, Some, IfSome};
+ghost use Rattle.std.specs.Prelude.{◌≡◌, ◌≢◌, ℕ, ◌+◌, ◌*◌, ◌%◌, ◌<◌, ◌≤◌, Bool, true, false, not, ◌&&◌, nat_le, is_some, List, [], ◌∷◌, ◌++◌, length, All, Option, Some, IfSome};
 ghost use Rattle.image.specs.Picture.{Picture};
 ghost use Rattle.sched_log.specs.declared.event.Event.{Event};
 ghost use Rattle.sched_log.specs.declared.event.Event.TheVariants.{Real, Snap, Replace, Retire};
 ghost use Rattle.machine.specs.Harts.{is_live, hart_in};
 ghost use Rattle.machine.specs.States.{State};
 ghost use Rattle.machine.specs.Start.{start_of};
-ghost use Rattle.machine.specs.Steps.{original_step};
+ghost use Rattle.machine.specs.Steps.{original_step, original_run};
 ghost use Rattle.pacing.specs.Limits.{visit_limit, entry_limit};
-ghost use Rattle.pacing.specs.Logs.{state_at};
-ghost use Rattle.pacing.specs.Clocks.{clock_of, reals};
+ghost use Rattle.pacing.specs.Logs.{is_snap, steps_in, steps_of, state_at};
+ghost use Rattle.pacing.specs.Clocks.{tick, clock_of, reals};
 ghost use Rattle.pacing.specs.Pacing.{owes_snap, IsVisit, Paced};
+ghost use Rattle.pacing.specs.Readings.{NoSnap, NoReplace, HasPending};
 ghost use Rattle.pacing.specs.Serving.{visits, Turn, last_turn, NoneBefore, IsNext, TurnFits, Served};
 ghost use Rattle.pacing.specs.Keeping.{is_overdue, IsOpen, IsSettled, StillLive};
 ghost use Rattle.pacing.specs.Bounds.{IsLimited, IsBounded};
@@ -30,6 +31,37 @@ pub fn others_law()
 pub fn paced_law()
     ensures { (p : Picture) (start : State) (every away : ℕ) (wanted : Bool) (log : List Event)
         → IsSettled p start every away wanted log → Paced p start every log }
+{}
+
+/// The law of one more entry: what it adds to the steps, the state and the clock of a log.
+pub fn entry_law()
+    ensures steps { (log : List Event) (e : Event) → steps_of (log ++ e ∷ []) ≡ steps_of log ++ steps_in e }
+    ensures state { (p : Picture) (start : State) (log : List Event) (e : Event)
+        → state_at p start (log ++ e ∷ []) ≡ original_run p (steps_in e) (state_at p start log) }
+    ensures clock { (log : List Event) (e : Event) → clock_of (log ++ e ∷ []) ≡ tick (clock_of log) e }
+    ensures reals { (log : List Event) → length (steps_of log) ≡ reals log }
+{}
+
+/// What a log that keeps the pace is like. From the start or an attempt on the next Snap stands right after the first entry with which there
+/// are enough real steps, unless that entry ended the run, and nowhere else. A Retire and a Replace stand side by side, and there is a
+/// snapshot with no attempt yet. After each entry between a Snap and its attempt there are few enough real steps since the Snap.
+pub fn pace_law()
+    ensures snap_from_start { (p : Picture) (start : State) (every : ℕ) (log : List Event) → Paced p start every log
+        → (since : List Event) (e : Event) (rest : List Event) → log ≡ since ++ e ∷ rest → NoSnap since → NoReplace since
+        → is_snap e ≡ (nat_le every (reals since) && not (is_some (state_at p start since).outcome)) }
+    ensures snap_after_attempt { (p : Picture) (start : State) (every : ℕ) (log : List Event) → Paced p start every log
+        → (before since : List Event) (e : Event) (rest : List Event) → log ≡ (before ++ Replace ∷ since) ++ e ∷ rest → NoSnap since → NoReplace since
+        → is_snap e ≡ (nat_le every (reals since) && not (is_some (state_at p start (before ++ Replace ∷ since)).outcome)) }
+    ensures replace_follows { (p : Picture) (start : State) (every : ℕ) (log : List Event) → Paced p start every log
+        → (before rest : List Event) → log ≡ before ++ Retire ∷ rest → (after : List Event) × (rest ≡ Replace ∷ after) }
+    ensures retire_precedes { (p : Picture) (start : State) (every : ℕ) (log : List Event) → Paced p start every log
+        → (before rest : List Event) → log ≡ before ++ Replace ∷ rest → (shorter : List Event) × (before ≡ shorter ++ Retire ∷ []) }
+    ensures snap_precedes { (p : Picture) (start : State) (every : ℕ) (log : List Event) → Paced p start every log
+        → (before rest : List Event) → log ≡ before ++ Retire ∷ rest → HasPending before }
+    ensures attempt_in_time { (p : Picture) (start : State) (every : ℕ) (log : List Event) → Paced p start every log
+        → (before since : List Event) (e : Event) (rest : List Event) → log ≡ (before ++ Snap ∷ since) ++ e ∷ rest
+        → NoSnap (since ++ e ∷ []) → NoReplace (since ++ e ∷ [])
+        → reals (since ++ e ∷ []) ≤ every + visit_limit * length (state_at p start (before ++ Snap ∷ (since ++ e ∷ []))).harts }
 {}
 
 /// The law of a log that grows. A run begins settled. A hart may leave where no stop is wanted and the run goes on; it lands with a visit, or
