@@ -1,5 +1,5 @@
 -- What each step of a lock section keeps of the bounds.
-use Rattle.std.proofs.Common.{◌≡◌, ℕ, ◌+◌, ◌*◌, ◌<◌, ◌≤◌, Bool, true, false, List, [], ◌∷◌, ◌++◌, length, replicate, refl, subst, sym, arith}
+use Rattle.std.proofs.Common.{◌≡◌, ℕ, ◌+◌, ◌*◌, ◌<◌, ◌≤◌, Bool, true, false, List, [], ◌∷◌, ◌++◌, length, replicate, subst, arith}
 use Rattle.std.proofs.lemmas.List.{length-append}
 use Rattle.image.specs.Picture.{Picture}
 use Rattle.sched_log.specs.declared.event.Event.{Event}
@@ -8,7 +8,7 @@ use Rattle.machine.specs.States.{State}
 use Rattle.machine.specs.Steps.{original_run}
 use Rattle.pacing.specs.Limits.{visit_limit, entry_limit}
 use Rattle.pacing.specs.Logs.{steps_in, state_at}
-use Rattle.pacing.specs.Clocks.{Clock, tick, clock_from, clock_of}
+use Rattle.pacing.specs.Clocks.{tick, clock_from, clock_of}
 use Rattle.pacing.specs.Bounds.{to_come, IsLimited, IsBounded}
 use Rattle.pacing.proofs.Growing.{grown}
 use Rattle.pacing.proofs.Runs.{made_by_run}

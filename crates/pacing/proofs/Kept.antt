@@ -1,5 +1,5 @@
 -- What each step of a lock section keeps of a log.
-use Rattle.std.proofs.Common.{◌≡◌, ℕ, ◌+◌, ◌*◌, ◌<◌, ◌≤◌, Bool, true, false, List, [], ◌∷◌, ◌++◌, length, replicate, refl, sym, subst, arith}
+use Rattle.std.proofs.Common.{◌≡◌, ℕ, ◌+◌, ◌<◌, ◌≤◌, Bool, true, false, List, [], ◌∷◌, ◌++◌, length, replicate, refl, sym, arith}
 use Rattle.std.specs.Prelude.{not, ◌&&◌, nat_le, is_some}
 use Rattle.image.specs.Picture.{Picture}
 use Rattle.sched_log.specs.declared.event.Event.{Event}

@@ -9,3 +9,4 @@ pub mod Rotation
 pub mod Runs
 mod Samples
 pub mod Serves
+pub mod Visits

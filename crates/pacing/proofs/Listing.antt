@@ -1,13 +1,12 @@
 -- No call puts a hart on the list of waiting harts but the one that makes it.
 use Rattle.std.proofs.Common.{◌≡◌, ◌≢◌, ℕ, zero, suc, ◌+◌, ◌*◌, Bool, true, false, List, [], ◌∷◌, ◌++◌, refl, sym, subst}
-use Rattle.std.specs.Prelude.{Option, Some, None, ◌==◌, ◌&&◌, not, nat_lt, nat_le, All, length, min, ◌%◌, ◌-◌, ◌^◌, ◌||◌, filter, if◌then◌else◌}
+use Rattle.std.specs.Prelude.{Option, Some, None, ◌==◌, ◌&&◌, not, nat_lt, nat_le, All, length, min, ◌%◌, ◌^◌, ◌||◌, filter, if◌then◌else◌}
 use Rattle.std.specs.List.{list_all}
-use Rattle.std.proofs.lemmas.List.Elements.{All-nil, All-cons, All-head, All-tail, All-append, All-push, All-map, All-take, All-filter}
+use Rattle.std.proofs.lemmas.List.Elements.{All-cons, All-head, All-tail, All-append, All-push, All-map, All-take, All-filter}
 use Rattle.finite.specs.Maps.{Places, contains_all}
 use Rattle.guest_mem.specs.Memory.{number_of, bytes_from}
 use Rattle.link_tags.specs.declared.value.Value.{Value}
 use Rattle.guest_sys.specs.declared.state.Waiter.{Waiter}
-use Rattle.guest_sys.specs.declared.effect.Reply.TheVariants as reply
 use Rattle.guest_sys.specs.declared.service.Service.{Service}
 use Rattle.guest_sys.specs.declared.service.Service.TheVariants as call
 use Rattle.guest_sys.specs.declared.service.Operation.{Operation}
@@ -16,7 +15,7 @@ use Rattle.guest_sys.specs.Limits.{output_limit, hart_limit}
 use Rattle.guest_sys.specs.Services.{service_of, operation_of, number, link_read}
 use Rattle.guest_sys.specs.State.{State, pages}
 use Rattle.guest_sys.specs.Waiting.{waits_at, first_at, others, sent_to, requeued}
-use Rattle.guest_sys.specs.Calls.{Done, fails, answers, output, added, all_readable, parts, is_output, read, written, write_parts, write, writev, exit, wait, wake, requeue, futex_call, brk, is_page, is_mapping, munmap, has, mmap, mprotect, is_thread, is_word, is_cleared, tid_words, clone, served, unless_link, asked, bytes_of_parts, cloned}
+use Rattle.guest_sys.specs.Calls.{Done, fails, output, all_readable, parts, is_output, read, written, write_parts, write, writev, exit, wait, wake, requeue, futex_call, brk, is_page, is_mapping, munmap, has, mmap, mprotect, is_thread, is_word, is_cleared, tid_words, clone, served, unless_link, asked, bytes_of_parts}
 use Rattle.machine.specs.States as whole
 use Rattle.machine.specs.Steps.{call_of}
 

@@ -1,9 +1,8 @@
 -- What a step of a hart leaves of the others: none of them that is live waits or ends, and those that were made stay.
-use Rattle.std.proofs.Common.{◌≡◌, ◌≢◌, ℕ, zero, suc, ◌+◌, ◌≤◌, Bool, true, false, List, [], ◌∷◌, ◌++◌, length, map, refl, sym, ap, ◌∙◌, subst, arith}
+use Rattle.std.proofs.Common.{◌≡◌, ◌≢◌, ℕ, zero, suc, ◌≤◌, Bool, true, false, List, [], ◌∷◌, ◌++◌, length, map, refl, sym, ap, ◌∙◌, subst, arith}
 use Rattle.std.specs.Prelude.{Option, Some, None, ◌==◌, ◌&&◌, not, is_some, All, slice_set, if◌then◌else◌}
 use Rattle.std.proofs.lemmas.List.{length-set, length-map, length-append}
 use Rattle.std.proofs.lemmas.List.Elements.{All-nil, All-cons, All-head, All-tail}
-use Rattle.oc_base.specs.declared.range.Range.{Range}
 use Rattle.rv_isa.specs.Decoded.{decoded}
 use Rattle.rv_isa.specs.declared.instr.Instr.{Instr}
 use Rattle.image.specs.Picture.{Picture}
@@ -20,7 +19,7 @@ use Rattle.guest_sys.specs.declared.effect.Reply.TheVariants as reply
 use Rattle.guest_sys.specs.Calls.{Done, ranges}
 use Rattle.machine.specs.declared.outcome.Outcome.{Outcome}
 use Rattle.machine.specs.declared.outcome.Outcome.TheVariants.{Stalled}
-use Rattle.machine.specs.Harts.{is_live, hart_in, unreserved, is_in, written_by, written_in, awake, woken, waiting_at, waiting_as, is_stalled, answered, stopped, child_of, replied}
+use Rattle.machine.specs.Harts.{is_live, hart_in, unreserved, is_in, written_by, written_in, awake, woken, waiting_at, waiting_as, is_stalled, answered, child_of, replied}
 use Rattle.machine.specs.States.{State}
 use Rattle.machine.specs.Start.{start_of}
 use Rattle.machine.specs.Steps.{ended, with_hart, place_of, is_indirect, fault_of_jump, jumped_unless, call_of, harts_after, called, by_answer, affected, after_effect, on_instr, on_fetched, settled, can_step, step_with, original_step}

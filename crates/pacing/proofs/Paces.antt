@@ -1,6 +1,6 @@
 -- What a log that keeps the pace is like, place by place.
 use Rattle.std.proofs.Common.{◌≡◌, ℕ, ◌+◌, ◌*◌, ◌≤◌, Bool, true, false, List, [], ◌∷◌, ◌++◌, length, refl, sym, ap, ◌∙◌, ◌⊎◌, inl, inr, arith}
-use Rattle.std.specs.Prelude.{not, ◌&&◌, nat_le, is_some, All}
+use Rattle.std.specs.Prelude.{not, ◌&&◌, nat_le, is_some}
 use Rattle.std.proofs.lemmas.List.{append_assoc}
 use Rattle.std.proofs.lemmas.List.Elements.{All-nil, All-cons}
 use Rattle.image.specs.Picture.{Picture}
@@ -10,7 +10,7 @@ use Rattle.machine.specs.States.{State}
 use Rattle.pacing.specs.Limits.{visit_limit}
 use Rattle.pacing.specs.Logs.{is_snap, is_replace, state_at}
 use Rattle.pacing.specs.Clocks.{Clock, zero_clock, tick, clock_from, clock_of, reals}
-use Rattle.pacing.specs.Pacing.{Fits, Paced}
+use Rattle.pacing.specs.Pacing.{Paced}
 use Rattle.pacing.specs.Readings.{NoSnap, NoReplace, HasPending}
 use Rattle.pacing.proofs.Growing.{clock-snoc}
 use Rattle.pacing.proofs.Clocked.{reals_append, after_snap, after_replace, from_start}
@@ -78,16 +78,13 @@ no_steps : (reals (Snap ∷ []) ≡ 0) × (reals (Replace ∷ []) ≡ 0)
 unfolding clock_from
 no_steps = (refl, refl)
 
+same_order : (every at since : ℕ) → nat_le (every + at) (at + since) ≡ nat_le every since
+same_order every at since = grind arith
+
+-- a Snap is owed by the real steps since the mark
 owed_since : (every at now since : ℕ) (pending over : Bool) → pending ≡ false → now ≡ at + since
     → (not pending && nat_le (every + at) now && not over) ≡ (nat_le every since && not over)
-owed_since every at now since pending over idle sum = by_test over (rw (idle, sum) (by_sum (nat_le_same every at since)))
-  where
-    nat_le_same : (e a s : ℕ) → nat_le (e + a) (a + s) ≡ nat_le e s
-    nat_le_same e a s = grind arith
-    by_sum : nat_le (every + at) (at + since) ≡ nat_le every since → (not false && nat_le (every + at) (at + since)) ≡ nat_le every since
-    by_sum same = same
-    by_test : (b : Bool) → (not pending && nat_le (every + at) now) ≡ nat_le every since → (not pending && nat_le (every + at) now && not b) ≡ (nat_le every since && not b)
-    by_test b same = ap (λ x. x && not b) same
+owed_since every at now since pending over idle sum = ap (λ x. x && not over) (rw (idle, sum) (same_order every at since))
 
 module _ (p : Picture) (start : State) (every : ℕ) (log : List Event) (k : Paced p start every log) where
   pub snap_from_start : (since : List Event) (e : Event) (rest : List Event) → log ≡ since ++ e ∷ rest → NoSnap since → NoReplace since
@@ -96,7 +93,7 @@ module _ (p : Picture) (start : State) (every : ℕ) (log : List Event) (k : Pac
       let c = from_start since none neither in
       (k.each since e rest parts).snap
       ∙ owed_since every (clock_of since).attempted_at (reals since) (reals since) (clock_of since).pending (is_some (state_at p start since).outcome) c.1
-        (let z = c.0 in omega (arith, z))
+      (let z = c.0 in omega (arith, z))
 
   pub snap_after_attempt : (before since : List Event) (e : Event) (rest : List Event) → log ≡ (before ++ Replace ∷ since) ++ e ∷ rest → NoSnap since → NoReplace since
       → is_snap e ≡ (nat_le every (reals since) && not (is_some (state_at p start (before ++ Replace ∷ since)).outcome))
@@ -105,7 +102,7 @@ module _ (p : Picture) (start : State) (every : ℕ) (log : List Event) (k : Pac
       let c = after_replace before since none neither in
       (k.each upto e rest parts).snap
       ∙ owed_since every (clock_of upto).attempted_at (reals upto) (reals since) (clock_of upto).pending (is_some (state_at p start upto).outcome) c.1
-        (let at = c.0 in let sum = reals_append before (Replace ∷ since) in let own = unmarked Replace since no_steps.1 in omega (arith, at, sum, own))
+      (let at = c.0 in let sum = reals_append before (Replace ∷ since) in let own = unmarked Replace since no_steps.1 in omega (arith, at, sum, own))
 
   pub attempt_in_time : (before since : List Event) (e : Event) (rest : List Event) → log ≡ (before ++ Snap ∷ since) ++ e ∷ rest
       → NoSnap (since ++ e ∷ []) → NoReplace (since ++ e ∷ [])

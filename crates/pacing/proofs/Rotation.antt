@@ -1,21 +1,10 @@
 -- What a search in the order of a rotation finds.
-use Rattle.std.proofs.Common.{◌≡◌, ℕ, zero, suc, ◌+◌, ◌%◌, ◌<◌, ◌≤◌, Bool, true, false, List, [], ◌∷◌, ◌++◌, length, refl, sym, ap, ◌∙◌, subst, ◌⊎◌, ⊎_elim, arith}
-use Rattle.std.specs.Prelude.{◌==◌, Option, Some, None, IfSome, All}
-use Rattle.std.specs.List.{flat_map}
-use Rattle.std.proofs.lemmas.Bool.{cases_lt, eq-eqb}
-use Rattle.std.proofs.lemmas.Grind.{flat_map-append}
-use Rattle.std.proofs.lemmas.List.{append_assoc}
-use Rattle.std.proofs.lemmas.List.Elements.{All-head, All-tail}
-use Rattle.image.specs.Picture.{Picture}
-use Rattle.sched_log.specs.declared.event.Event.{Event}
-use Rattle.sched_log.specs.declared.event.Event.TheVariants.{Steps, Real, Till, Snap, Replace, Given, Retire}
+use Rattle.std.proofs.Common.{◌≡◌, ℕ, zero, suc, ◌%◌, ◌<◌, ◌≤◌, true, false, List, [], ◌∷◌, length, refl, ⊎_elim, arith}
+use Rattle.std.proofs.lemmas.Bool.{cases_lt}
 use Rattle.hart.specs.declared.hart.Hart.{Hart}
 use Rattle.machine.specs.Harts.{is_live, hart_in}
 use Rattle.machine.specs.States.{State}
-use Rattle.machine.specs.Steps.{original_run}
-use Rattle.machine.proofs.Stays.{run_append}
-use Rattle.pacing.specs.Logs.{steps_in, steps_of, state_at}
-use Rattle.pacing.specs.Serving.{Turn, turned, turn_from, last_turn, comes_before, NoneBefore, IsNext, visits, Served}
+use Rattle.pacing.specs.Serving.{comes_before, NoneBefore}
 
 before_above : (g k h : ℕ) → g < h → comes_before g k h ≡ true → (g < k) × (k < h)
 before_above g k h above before = (grind (arith, above, before), grind (arith, above, before))

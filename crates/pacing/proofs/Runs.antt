@@ -1,5 +1,5 @@
 -- What the steps of one entry leave of the harts.
-use Rattle.std.proofs.Common.{◌≡◌, ◌≢◌, ℕ, zero, suc, ◌≤◌, List, [], ◌∷◌, length, replicate, arith}
+use Rattle.std.proofs.Common.{◌≢◌, ℕ, zero, suc, ◌≤◌, List, [], ◌∷◌, length, replicate, arith}
 use Rattle.image.specs.Picture.{Picture}
 use Rattle.machine.specs.States.{State}
 use Rattle.machine.specs.Steps.{original_step, original_run}

@@ -1,7 +1,6 @@
 -- The definitions, on small logs by hand.
-use Rattle.std.proofs.Common.{◌≡◌, ℕ, ◌+◌, ◌<◌, true, false, List, [], ◌∷◌, refl, arith}
+use Rattle.std.proofs.Common.{◌≡◌, ℕ, true, false, [], ◌∷◌, refl, arith}
 use Rattle.image.specs.Picture.{Picture}
-use Rattle.sched_log.specs.declared.event.Event.{Event}
 use Rattle.sched_log.specs.declared.event.Event.TheVariants.{Real, Snap, Replace, Retire}
 use Rattle.machine.specs.States.{State}
 use Rattle.pacing.specs.Clocks.{clock_from, reals}

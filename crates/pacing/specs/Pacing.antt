@@ -25,7 +25,7 @@ pub record IsVisit (p : Picture) (s : State) (h n : ℕ) : Type 0 where
   pub most : n ≤ visit_limit
   pub live : can_make p n h s ≡ true
 
--- an entry is of a kind that a threaded run has
+-- an entry is a visit, or of the other kinds that a threaded run has
 abbrev pub VisitFits : Picture → State → Event → Type 0
 VisitFits p s (Real h n) = IsVisit p s h n
 VisitFits p s Snap = Unit {0}

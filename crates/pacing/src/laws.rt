@@ -1,16 +1,16 @@
 //! The laws of logs that grow, for callers' proofs. The functions do nothing.
-ghost use Rattle.std.specs.Prelude.{◌≡◌, ◌≢◌, ℕ, ◌+◌, ◌*◌, ◌%◌, ◌<◌, ◌≤◌, Bool, true, false, not, ◌&&◌, nat_le, is_some, List, [], ◌∷◌, ◌++◌, length, All, Option, Some, IfSome};
+ghost use Rattle.std.specs.Prelude.{◌≡◌, ◌≢◌, ℕ, ◌+◌, ◌*◌, ◌%◌, ◌<◌, ◌≤◌, Bool, true, false, not, ◌&&◌, nat_le, is_some, List, [], ◌∷◌, ◌++◌, length, replicate, All, Option, Some, IfSome};
 ghost use Rattle.image.specs.Picture.{Picture};
 ghost use Rattle.sched_log.specs.declared.event.Event.{Event};
 ghost use Rattle.sched_log.specs.declared.event.Event.TheVariants.{Real, Snap, Replace, Retire};
 ghost use Rattle.machine.specs.Harts.{is_live, hart_in};
 ghost use Rattle.machine.specs.States.{State};
 ghost use Rattle.machine.specs.Start.{start_of};
-ghost use Rattle.machine.specs.Steps.{original_step, original_run};
+ghost use Rattle.machine.specs.Steps.{can_step, original_step, original_run};
 ghost use Rattle.pacing.specs.Limits.{visit_limit, entry_limit};
 ghost use Rattle.pacing.specs.Logs.{is_snap, steps_in, steps_of, state_at};
 ghost use Rattle.pacing.specs.Clocks.{tick, clock_of, reals};
-ghost use Rattle.pacing.specs.Pacing.{owes_snap, IsVisit, Paced};
+ghost use Rattle.pacing.specs.Pacing.{owes_snap, can_make, IsVisit, Paced};
 ghost use Rattle.pacing.specs.Readings.{NoSnap, NoReplace, HasPending};
 ghost use Rattle.pacing.specs.Serving.{visits, Turn, last_turn, NoneBefore, IsNext, TurnFits, Served};
 ghost use Rattle.pacing.specs.Keeping.{is_overdue, IsOpen, IsSettled, StillLive};
@@ -31,6 +31,14 @@ pub fn others_law()
 pub fn paced_law()
     ensures { (p : Picture) (start : State) (every away : ℕ) (wanted : Bool) (log : List Event)
         → IsSettled p start every away wanted log → Paced p start every log }
+{}
+
+/// The law of a visit that is made step by step: where the hart can step once more, the visit is one longer; and one that began where it
+/// could and ended where it can't has made a step.
+pub fn visit_law()
+    ensures more { (p : Picture) (n h : ℕ) (s : State) → can_make p n h s ≡ true → can_step h (original_run p (replicate n h) s) ≡ true
+        → can_make p (n + 1) h s ≡ true }
+    ensures some { (p : Picture) (n h : ℕ) (s : State) → can_step h s ≡ true → can_step h (original_run p (replicate n h) s) ≡ false → 0 < n }
 {}
 
 /// The law of one more entry: what it adds to the steps, the state and the clock of a log.
