@@ -1,11 +1,14 @@
 -- The definitions, on small logs by hand.
-use Rattle.std.proofs.Common.{◌≡◌, ℕ, true, false, [], ◌∷◌, refl, arith}
+use Rattle.std.proofs.Common.{◌≡◌, ℕ, ◌+◌, ◌<◌, ◌≤◌, Bool, true, false, [], ◌∷◌, length, refl, arith}
+use Rattle.std.specs.Prelude.{not, ◌&&◌, nat_le, is_some}
 use Rattle.image.specs.Picture.{Picture}
 use Rattle.sched_log.specs.declared.event.Event.TheVariants.{Real, Snap, Replace, Retire}
 use Rattle.machine.specs.States.{State}
 use Rattle.pacing.specs.Clocks.{clock_from, reals}
-use Rattle.pacing.specs.Pacing.{Paced}
+use Rattle.pacing.specs.Logs.{state_at}
+use Rattle.pacing.specs.Pacing.{IsVisit, Paced}
 use Rattle.pacing.specs.Serving.{comes_before}
+use Rattle.pacing.proofs.Kept.{begun, left, landed, snapped, attempted, paced}
 
 -- a visit of 65 steps is too long
 long_visit : (p : Picture) (start : State) (every h : ℕ) → Paced p start every (Real h 65 ∷ []) → ⊥
@@ -41,3 +44,19 @@ not_above = refl
 
 not_itself : comes_before 5 5 4 ≡ false
 not_itself = refl
+
+enough : (every n : ℕ) (over : Bool) → every ≤ n → over ≡ false → (not false && nat_le (every + 0) (0 + n) && not over) ≡ true
+enough every n over long goes_on = grind (arith, long, goes_on)
+
+-- a visit with enough real steps, a Snap, and its attempt
+whole_round : (p : Picture) (start : State) (every h n : ℕ) → 0 < every → every ≤ n → IsVisit p start h n → 0 < length start.harts
+    → is_some start.outcome ≡ false → is_some (state_at p start (Real h n ∷ [])).outcome ≡ false
+    → Paced p start every (Real h n ∷ Snap ∷ Retire ∷ Replace ∷ [])
+unfolding clock_from
+whole_round p start every h n some long visit room goes_on still =
+    let away = left p start every 0 [] (begun p start every some) goes_on (omega (arith, room)) in
+    let home = landed p start every 0 false [] h n away visit in
+    let owed = enough every n (is_some (state_at p start (Real h n ∷ [])).outcome) long still in
+    let taken = snapped p start every 0 false (Real h n ∷ []) some owed home in
+    let used = attempted p start every 0 false (Real h n ∷ Snap ∷ []) some refl taken.opened in
+    paced p start every 0 false (Real h n ∷ Snap ∷ Retire ∷ Replace ∷ []) used

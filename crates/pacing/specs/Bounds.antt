@@ -4,18 +4,19 @@ use Rattle.std.specs.Prelude.{ℕ, ◌+◌, ◌*◌, ◌<◌, ◌≤◌, Bool, L
 use Rattle.image.specs.Picture.{Picture}
 use Rattle.sched_log.specs.declared.event.Event.{Event}
 use Rattle.machine.specs.States.{State}
-use Rattle.pacing.specs.Limits.{visit_limit, entry_limit}
+use Rattle.pacing.specs.Limits.{visit_limit, entry_limit, attempt_entries, visit_entries}
 use Rattle.pacing.specs.Logs.{state_at}
-use Rattle.pacing.specs.Clocks.{clock_of}
+use Rattle.pacing.specs.Clocks.{clock_of, reals}
 
 -- real steps, with a whole visit of each hart that is away
 pub record IsLimited (p : Picture) (start : State) (limit away : ℕ) (log : List Event) : Type 0 where
-  pub steps : (clock_of log).real + visit_limit * away < limit + visit_limit * length (state_at p start log).harts
+  pub steps : reals log + visit_limit * away < limit + visit_limit * length (state_at p start log).harts
 
--- the entries that are still to come of an attempt
+-- the entries that are still to come of a pending attempt
 abbrev pub to_come : (pending : Bool) → ℕ
-to_come pending = if pending then 2 else 0
+to_come pending = if pending then attempt_entries else 0
 
--- entries, with some to spare, and four of each hart that is away: its visit, a Snap and an attempt
+-- entries, with some to spare, and those of a visit of each hart that is away
 pub record IsBounded (p : Picture) (start : State) (away spare : ℕ) (log : List Event) : Type 0 where
-  pub entries : length log + to_come (clock_of log).pending + spare + 4 * away ≤ entry_limit + 1 + 4 * length (state_at p start log).harts
+  pub entries : length log + to_come (clock_of log).pending + spare + visit_entries * away
+      ≤ entry_limit + 1 + visit_entries * length (state_at p start log).harts

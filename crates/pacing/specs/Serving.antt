@@ -1,5 +1,5 @@
--- Which logs serve the harts in rotation, and whole visits. Worker w of several serves the harts with the remainder w. Source: this
--- project.
+-- Which logs serve the harts in rotation, with whole visits. Of several workers the one with number w serves the harts with remainder w.
+-- Source: this project.
 use Rattle.std.specs.Prelude.{◌≡◌, ℕ, ◌%◌, ◌==◌, nat_lt, nat_le, Bool, true, false, not, ◌&&◌, ◌||◌, List, [], ◌∷◌, Option, Some, None, replicate, if◌then◌else◌}
 use Rattle.image.specs.Picture.{Picture}
 use Rattle.sched_log.specs.declared.event.Event.{Event}

@@ -7,7 +7,7 @@ ghost use Rattle.machine.specs.Harts.{is_live, hart_in};
 ghost use Rattle.machine.specs.States.{State};
 ghost use Rattle.machine.specs.Start.{start_of};
 ghost use Rattle.machine.specs.Steps.{can_step, original_step, original_run};
-ghost use Rattle.pacing.specs.Limits.{visit_limit, entry_limit};
+ghost use Rattle.pacing.specs.Limits.{visit_limit, entry_limit, visit_entries};
 ghost use Rattle.pacing.specs.Logs.{is_snap, steps_in, steps_of, state_at};
 ghost use Rattle.pacing.specs.Clocks.{tick, clock_of, reals};
 ghost use Rattle.pacing.specs.Pacing.{owes_snap, can_make, IsVisit, Paced};
@@ -78,13 +78,17 @@ pub fn pace_law()
 pub fn growing_law()
     ensures begins { (p : Picture) (start : State) (every : ℕ) → 0 < every → IsSettled p start every 0 false [] }
     ensures leaves { (p : Picture) (start : State) (every away : ℕ) (log : List Event) → IsSettled p start every away false log
-        → is_some (state_at p start log).outcome ≡ false → away + 1 ≤ length (state_at p start log).harts → IsSettled p start every (away + 1) false log }
-    ensures lands { (p : Picture) (start : State) (every away : ℕ) (wanted : Bool) (log : List Event) (h n : ℕ) → IsSettled p start every (away + 1) wanted log
+        → is_some (state_at p start log).outcome ≡ false → away + 1 ≤ length (state_at p start log).harts
+        → IsSettled p start every (away + 1) false log }
+    ensures lands { (p : Picture) (start : State) (every away : ℕ) (wanted : Bool) (log : List Event) (h n : ℕ)
+        → IsSettled p start every (away + 1) wanted log
         → IsVisit p (state_at p start log) h n → IsOpen p start every away (log ++ Real h n ∷ []) }
-    ensures gives_up { (p : Picture) (start : State) (every away : ℕ) (wanted : Bool) (log : List Event) → IsSettled p start every (away + 1) wanted log
+    ensures gives_up { (p : Picture) (start : State) (every away : ℕ) (wanted : Bool) (log : List Event)
+        → IsSettled p start every (away + 1) wanted log
         → IsSettled p start every away wanted log }
     ensures snap_settles { (p : Picture) (start : State) (every away : ℕ) (wanted : Bool) (log : List Event) → 0 < every
-        → owes_snap every (state_at p start log) (clock_of log) ≡ true → IsOpen p start every away log → IsSettled p start every away wanted (log ++ Snap ∷ []) }
+        → owes_snap every (state_at p start log) (clock_of log) ≡ true → IsOpen p start every away log
+        → IsSettled p start every away wanted (log ++ Snap ∷ []) }
     ensures attempt_settles { (p : Picture) (start : State) (every away : ℕ) (wanted : Bool) (log : List Event) → 0 < every
         → (clock_of log).pending ≡ true → IsOpen p start every away log → IsSettled p start every away wanted ((log ++ Retire ∷ []) ++ Replace ∷ []) }
     ensures rests_settled { (p : Picture) (start : State) (every away : ℕ) (wanted : Bool) (log : List Event) → IsOpen p start every away log
@@ -101,7 +105,8 @@ pub fn growing_law()
 pub fn serving_law()
     ensures begins { (p : Picture) (start : State) (workers : ℕ) → Served p start workers [] }
     ensures begins_live { (p : Picture) (start : State) (workers worker : ℕ) → StillLive workers worker (last_turn p workers worker start []) start }
-    ensures serves { (p : Picture) (start : State) (workers : ℕ) (log : List Event) (e : Event) → Served p start workers log → TurnFits p start workers log e
+    ensures serves { (p : Picture) (start : State) (workers : ℕ) (log : List Event) (e : Event) → Served p start workers log
+        → TurnFits p start workers log e
         → Served p start workers (log ++ e ∷ []) }
     ensures next_fits { (workers worker h : ℕ) (t : Option Turn) (now : State) → StillLive workers worker t now
         → IfSome t (λ u. NoneBefore workers worker u.hart h now) → IsNext workers worker t h }
@@ -119,7 +124,8 @@ pub fn turns_law()
         → last_turn p workers worker start (log ++ e ∷ []) ≡ last_turn p workers worker start log }
     ensures served { (p : Picture) (start : State) (workers : ℕ) (log before between rest : List Event) (g m h n : ℕ) → Served p start workers log
         → log ≡ before ++ Real g m ∷ (between ++ Real h n ∷ rest) → g % workers ≡ h % workers
-        → All (λ e. visits workers (h % workers) e ≡ false) between → NoneBefore workers (h % workers) g h (state_at p start (before ++ Real g m ∷ [])) }
+        → All (λ e. visits workers (h % workers) e ≡ false) between
+        → NoneBefore workers (h % workers) g h (state_at p start (before ++ Real g m ∷ [])) }
 {}
 
 /// The law of a search in the order of the rotation after hart g: up from g, and then up from 0 to g. What it passed comes before what it found.
@@ -158,7 +164,8 @@ pub fn bounds_law()
         → IsBounded p start away spare (log ++ Snap ∷ []) }
     ensures entries_attempt { (p : Picture) (start : State) (away spare : ℕ) (log : List Event) → (clock_of log).pending ≡ true
         → IsBounded p start away spare log → IsBounded p start away spare ((log ++ Retire ∷ []) ++ Replace ∷ []) }
-    ensures entries_rest { (p : Picture) (start : State) (away spare : ℕ) (log : List Event) → IsBounded p start away spare log → IsBounded p start away 0 log }
+    ensures entries_rest { (p : Picture) (start : State) (away spare : ℕ) (log : List Event) → IsBounded p start away spare log
+        → IsBounded p start away 0 log }
     ensures entries { (p : Picture) (start : State) (away spare : ℕ) (log : List Event) → IsBounded p start away spare log
-        → length log ≤ entry_limit + 1 + 4 * length (state_at p start log).harts }
+        → length log ≤ entry_limit + 1 + visit_entries * length (state_at p start log).harts }
 {}
