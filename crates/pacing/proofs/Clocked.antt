@@ -92,6 +92,27 @@ pending_from c (e ∷ es) none neither =
     pending_from (tick c e) es (All-tail (λ f. is_snap f ≡ false) e es none) (All-tail (λ f. is_replace f ≡ false) e es neither)
     ∙ pending_tick c e (All-head (λ f. is_snap f ≡ false) e es none) (All-head (λ f. is_replace f ≡ false) e es neither)
 
+-- a snapshot waits until its attempt
+stays_tick : (c : Clock) (e : Event) → c.pending ≡ true → is_replace e ≡ false → (tick c e).pending ≡ true
+stays_tick c (Real h n) waits other = waits
+stays_tick c (Steps h n) waits other = waits
+stays_tick c (Till n) waits other = waits
+stays_tick c Snap waits other = refl
+stays_tick c Replace waits other = absurd (cc)
+stays_tick c (Given plan) waits other = waits
+stays_tick c Retire waits other = waits
+
+stays_from : (c : Clock) (es : List Event) → c.pending ≡ true → NoReplace es → (clock_from c es).pending ≡ true
+unfolding clock_from
+stays_from c [] waits none = waits
+stays_from c (e ∷ es) waits none =
+    stays_from (tick c e) es (stays_tick c e waits (All-head (λ f. is_replace f ≡ false) e es none)) (All-tail (λ f. is_replace f ≡ false) e es none)
+
+pub still_pending : (before es : List Event) → NoReplace es → (clock_of (before ++ Snap ∷ es)).pending ≡ true
+unfolding clock_from
+still_pending before es none =
+    ap (λ (d : Clock). d.pending) (clock_append zero_clock before (Snap ∷ es)) ∙ stays_from (tick (clock_of before) Snap) es refl none
+
 -- ---- after a Snap, an attempt, and neither
 pub after_snap : (before es : List Event) → NoSnap es → NoReplace es
     → ((clock_of (before ++ Snap ∷ es)).snapped_at ≡ reals before) × ((clock_of (before ++ Snap ∷ es)).pending ≡ true)

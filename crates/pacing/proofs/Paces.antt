@@ -10,10 +10,11 @@ use Rattle.machine.specs.States.{State}
 use Rattle.pacing.specs.Limits.{visit_limit}
 use Rattle.pacing.specs.Logs.{is_snap, is_replace, state_at}
 use Rattle.pacing.specs.Clocks.{Clock, zero_clock, tick, clock_from, clock_of, reals}
-use Rattle.pacing.specs.Pacing.{Paced}
+use Rattle.pacing.specs.Pacing.{owes_snap, Paced}
 use Rattle.pacing.specs.Readings.{NoSnap, NoReplace, HasPending}
 use Rattle.pacing.proofs.Growing.{clock-snoc}
-use Rattle.pacing.proofs.Clocked.{reals_append, after_snap, after_replace, from_start}
+use Rattle.pacing.proofs.Clocked.{reals_append, after_snap, after_replace, from_start, still_pending}
+use Rattle.pacing.proofs.Kept.{none_owed}
 
 -- ---- how the last entry and the last snapshot are found
 retired_ends : (c : Clock) (e : Event) (es : List Event) → (clock_from c (e ∷ es)).retired ≡ true → (shorter : List Event) × (e ∷ es ≡ shorter ++ Retire ∷ [])
@@ -87,22 +88,46 @@ owed_since : (every at now since : ℕ) (pending over : Bool) → pending ≡ fa
 owed_since every at now since pending over idle sum = ap (λ x. x && not over) (rw (idle, sum) (same_order every at since))
 
 module _ (p : Picture) (start : State) (every : ℕ) (log : List Event) (k : Paced p start every log) where
+  -- what is owed after entries with no mark, from the start and from an attempt on
+  owed_from_start : (since : List Event) → NoSnap since → NoReplace since
+      → owes_snap every (state_at p start since) (clock_of since) ≡ (nat_le every (reals since) && not (is_some (state_at p start since).outcome))
+  owed_from_start since none neither =
+      let c = from_start since none neither in
+      owed_since every (clock_of since).attempted_at (reals since) (reals since) (clock_of since).pending (is_some (state_at p start since).outcome) c.1
+      (let z = c.0 in omega (arith, z))
+
+  owed_after_attempt : (before since : List Event) → NoSnap since → NoReplace since
+      → (let upto = before ++ Replace ∷ since in
+      owes_snap every (state_at p start upto) (clock_of upto) ≡ (nat_le every (reals since) && not (is_some (state_at p start upto).outcome)))
+  owed_after_attempt before since none neither =
+      let upto = before ++ Replace ∷ since in
+      let c = after_replace before since none neither in
+      owed_since every (clock_of upto).attempted_at (reals upto) (reals since) (clock_of upto).pending (is_some (state_at p start upto).outcome) c.1
+      (let at = c.0 in let sum = reals_append before (Replace ∷ since) in let own = unmarked Replace since no_steps.1 in omega (arith, at, sum, own))
+
   pub snap_from_start : (since : List Event) (e : Event) (rest : List Event) → log ≡ since ++ e ∷ rest → NoSnap since → NoReplace since
       → is_snap e ≡ (nat_le every (reals since) && not (is_some (state_at p start since).outcome))
-  snap_from_start since e rest parts none neither =
-      let c = from_start since none neither in
-      (k.each since e rest parts).snap
-      ∙ owed_since every (clock_of since).attempted_at (reals since) (reals since) (clock_of since).pending (is_some (state_at p start since).outcome) c.1
-      (let z = c.0 in omega (arith, z))
+  snap_from_start since e rest parts none neither = (k.each since e rest parts).snap ∙ owed_from_start since none neither
 
   pub snap_after_attempt : (before since : List Event) (e : Event) (rest : List Event) → log ≡ (before ++ Replace ∷ since) ++ e ∷ rest → NoSnap since → NoReplace since
       → is_snap e ≡ (nat_le every (reals since) && not (is_some (state_at p start (before ++ Replace ∷ since)).outcome))
   snap_after_attempt before since e rest parts none neither =
-      let upto = before ++ Replace ∷ since in
-      let c = after_replace before since none neither in
-      (k.each upto e rest parts).snap
-      ∙ owed_since every (clock_of upto).attempted_at (reals upto) (reals since) (clock_of upto).pending (is_some (state_at p start upto).outcome) c.1
-      (let at = c.0 in let sum = reals_append before (Replace ∷ since) in let own = unmarked Replace since no_steps.1 in omega (arith, at, sum, own))
+      (k.each (before ++ Replace ∷ since) e rest parts).snap ∙ owed_after_attempt before since none neither
+
+  pub one_snap : (before since : List Event) (e : Event) (rest : List Event) → log ≡ (before ++ Snap ∷ since) ++ e ∷ rest → NoReplace since → is_snap e ≡ false
+  one_snap before since e rest parts none =
+      (k.each (before ++ Snap ∷ since) e rest parts).snap ∙ none_owed every (state_at p start (before ++ Snap ∷ since)) (clock_of (before ++ Snap ∷ since)) (still_pending before since none)
+
+  pub ends_from_start : NoSnap log → NoReplace log → (nat_le every (reals log) && not (is_some (state_at p start log).outcome)) ≡ false
+  ends_from_start none neither = sym (owed_from_start log none neither) ∙ k.no_snap_owed
+
+  pub ends_after_attempt : (before since : List Event) → log ≡ before ++ Replace ∷ since → NoSnap since → NoReplace since
+      → (nat_le every (reals since) && not (is_some (state_at p start log).outcome)) ≡ false
+  ends_after_attempt before since parts none neither =
+      ap (λ (xs : List Event). nat_le every (reals since) && not (is_some (state_at p start xs).outcome)) parts
+      ∙ sym (owed_after_attempt before since none neither)
+      ∙ ap (λ (xs : List Event). owes_snap every (state_at p start xs) (clock_of xs)) (sym parts)
+      ∙ k.no_snap_owed
 
   pub attempt_in_time : (before since : List Event) (e : Event) (rest : List Event) → log ≡ (before ++ Snap ∷ since) ++ e ∷ rest
       → NoSnap (since ++ e ∷ []) → NoReplace (since ++ e ∷ [])

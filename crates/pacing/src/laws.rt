@@ -51,8 +51,8 @@ pub fn entry_law()
 {}
 
 /// What a log that keeps the pace is like. From the start or an attempt on the next Snap stands right after the first entry with which there
-/// are enough real steps, unless that entry ended the run, and nowhere else. A Retire and a Replace stand side by side, and there is a
-/// snapshot with no attempt yet. After each entry between a Snap and its attempt there are few enough real steps since the Snap.
+/// are enough real steps, unless that entry ended the run, and nowhere else; so too where the log ends. A Retire and a Replace stand side by
+/// side, and there is a snapshot with no attempt yet. After each entry between a Snap and its attempt there are few enough real steps since.
 pub fn pace_law()
     ensures snap_from_start { (p : Picture) (start : State) (every : ℕ) (log : List Event) → Paced p start every log
         → (since : List Event) (e : Event) (rest : List Event) → log ≡ since ++ e ∷ rest → NoSnap since → NoReplace since
@@ -60,6 +60,13 @@ pub fn pace_law()
     ensures snap_after_attempt { (p : Picture) (start : State) (every : ℕ) (log : List Event) → Paced p start every log
         → (before since : List Event) (e : Event) (rest : List Event) → log ≡ (before ++ Replace ∷ since) ++ e ∷ rest → NoSnap since → NoReplace since
         → is_snap e ≡ (nat_le every (reals since) && not (is_some (state_at p start (before ++ Replace ∷ since)).outcome)) }
+    ensures one_snap { (p : Picture) (start : State) (every : ℕ) (log : List Event) → Paced p start every log
+        → (before since : List Event) (e : Event) (rest : List Event) → log ≡ (before ++ Snap ∷ since) ++ e ∷ rest → NoReplace since → is_snap e ≡ false }
+    ensures ends_from_start { (p : Picture) (start : State) (every : ℕ) (log : List Event) → Paced p start every log → NoSnap log → NoReplace log
+        → (nat_le every (reals log) && not (is_some (state_at p start log).outcome)) ≡ false }
+    ensures ends_after_attempt { (p : Picture) (start : State) (every : ℕ) (log : List Event) → Paced p start every log
+        → (before since : List Event) → log ≡ before ++ Replace ∷ since → NoSnap since → NoReplace since
+        → (nat_le every (reals since) && not (is_some (state_at p start log).outcome)) ≡ false }
     ensures replace_follows { (p : Picture) (start : State) (every : ℕ) (log : List Event) → Paced p start every log
         → (before rest : List Event) → log ≡ before ++ Retire ∷ rest → (after : List Event) × (rest ≡ Replace ∷ after) }
     ensures retire_precedes { (p : Picture) (start : State) (every : ℕ) (log : List Event) → Paced p start every log
