@@ -12,6 +12,7 @@ use Rattle.pacing.specs.Pacing.{owes_snap, IsVisit, IsInTime, Fits, Paced}
 use Rattle.pacing.specs.Keeping.{is_overdue, KeepsTime, IsOpen, IsSettled}
 use Rattle.pacing.proofs.Growing.{each-snoc, each-nil, grown}
 use Rattle.pacing.proofs.Runs.{made_by_run}
+use Rattle.pacing.proofs.Visits.{not_over}
 
 -- ---- what is owed, by the clock
 pub none_due : (every n : ℕ) (pending over : Bool) → 0 < every → (not pending && nat_le (every + n) n && not over) ≡ false
@@ -84,6 +85,13 @@ module _ (p : Picture) (start : State) (every : ℕ) where
         });
         time = grown p start log (Real h n) (KeepsTime every away) time;
       }
+
+  -- a visit that leaves no lock section
+  pub visited : (away : ℕ) (log : List Event) (h n : ℕ) → IsSettled p start every away false log → away + 1 ≤ length (state_at p start log).harts
+      → IsVisit p (state_at p start log) h n → IsOpen p start every away (log ++ Real h n ∷ [])
+  visited away log h n k room visit =
+      let goes_on = not_over p (state_at p start log) h n visit in
+      landed away false log h n (left away log k goes_on room) visit
 
   pub given_up : (away : ℕ) (wanted : Bool) (log : List Event) → IsSettled p start every (away + 1) wanted log → IsSettled p start every away wanted log
   given_up away wanted log k =

@@ -1,5 +1,5 @@
--- Which logs keep the pace: visits are short, a snapshot is taken every so many real steps, and each is followed by one attempt in
--- time. Each rule of an entry looks at what stands before it. Source: this project.
+-- Which logs keep the pace: visits are short, a snapshot is taken every so many real steps, and none waits too long for its attempt. Each
+-- rule of an entry looks at what stands before it. Source: this project.
 use Rattle.std.specs.Prelude.{◌≡◌, ℕ, zero, suc, ◌+◌, ◌*◌, ◌<◌, ◌≤◌, nat_le, Bool, true, false, not, ◌&&◌, is_some, List, [], ◌∷◌, ◌++◌, length}
 use Rattle.image.specs.Picture.{Picture}
 use Rattle.sched_log.specs.declared.event.Event.{Event}

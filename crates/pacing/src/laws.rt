@@ -34,11 +34,12 @@ pub fn paced_law()
 {}
 
 /// The law of a visit that is made step by step: where the hart can step once more, the visit is one longer; and one that began where it
-/// could and ended where it can't has made a step.
+/// could and ended where it can't has made a step. The hart of a visit was made.
 pub fn visit_law()
     ensures more { (p : Picture) (n h : ℕ) (s : State) → can_make p n h s ≡ true → can_step h (original_run p (replicate n h) s) ≡ true
         → can_make p (n + 1) h s ≡ true }
     ensures some { (p : Picture) (n h : ℕ) (s : State) → can_step h s ≡ true → can_step h (original_run p (replicate n h) s) ≡ false → 0 < n }
+    ensures made { (p : Picture) (s : State) (h n : ℕ) → IsVisit p s h n → h < length s.harts }
 {}
 
 /// The law of one more entry: what it adds to the steps, the state and the clock of a log.
@@ -80,7 +81,7 @@ pub fn pace_law()
 {}
 
 /// The law of a log that grows. A run begins settled. A hart may leave where no stop is wanted and the run goes on; it lands with a visit, or
-/// gives up with none. What is open after a landing is settled by a snapshot that is owed, by an attempt, by nothing where nothing is owed
+/// gives up with none, or makes its visit at once. What is open after a landing is settled by a snapshot that is owed, by an attempt, by nothing where nothing is owed
 /// and no attempt is late or where the run is over, and by a stop that is wanted.
 pub fn growing_law()
     ensures begins { (p : Picture) (start : State) (every : ℕ) → 0 < every → IsSettled p start every 0 false [] }
@@ -90,6 +91,8 @@ pub fn growing_law()
     ensures lands { (p : Picture) (start : State) (every away : ℕ) (wanted : Bool) (log : List Event) (h n : ℕ)
         → IsSettled p start every (away + 1) wanted log
         → IsVisit p (state_at p start log) h n → IsOpen p start every away (log ++ Real h n ∷ []) }
+    ensures visits_at_once { (p : Picture) (start : State) (every away : ℕ) (log : List Event) (h n : ℕ) → IsSettled p start every away false log
+        → away + 1 ≤ length (state_at p start log).harts → IsVisit p (state_at p start log) h n → IsOpen p start every away (log ++ Real h n ∷ []) }
     ensures gives_up { (p : Picture) (start : State) (every away : ℕ) (wanted : Bool) (log : List Event)
         → IsSettled p start every (away + 1) wanted log
         → IsSettled p start every away wanted log }
