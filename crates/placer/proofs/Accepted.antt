@@ -1,7 +1,7 @@
 -- The plan of a profile has no fault, and is the only one.
-use Rattle.std.proofs.Common.{◌≡◌, ◌≢◌, ℕ, suc, ◌+◌, ◌<◌, false, List, [], ◌∷◌, ◌++◌, length, map, get_or, take, refl, sym, ap, subst, ◌∙◌, arith}
+use Rattle.std.proofs.Common.{◌≡◌, ◌≢◌, ℕ, suc, ◌<◌, false, List, [], ◌∷◌, length, map, get_or, refl, sym, ap, subst, ◌∙◌, arith}
 use Rattle.std.specs.Prelude.{All, AllPairs, None, ◌↔◌}
-use Rattle.std.proofs.lemmas.List.{get_or-map, length-map, take_more}
+use Rattle.std.proofs.lemmas.List.{get_or-map, length-map}
 use Rattle.image.specs.Picture.{Picture}
 use Rattle.blocks.specs.declared.run.Block.{Block}
 use Rattle.blocks.specs.Blocks.{blocks_of}
@@ -15,7 +15,7 @@ use Rattle.place_blocks.specs.Orders.{IsChain}
 use Rattle.place_funcs.specs.Edges.{edge, count}
 use Rattle.place_funcs.specs.Groups.{IsClosest}
 use Rattle.placer.specs.Chosen.{chosen}
-use Rattle.placer.specs.Planned.{IsPlanFor}
+use Rattle.placer.specs.Planned.{IsPlanFor, AreParts}
 use Rattle.placer.proofs.Ordered.{no_repeats}
 use Rattle.placer.proofs.Chained.{chain_order}
 use Rattle.placer.proofs.Chosen.{all_there, all_readable, each_once}
@@ -84,25 +84,6 @@ one_plan p profile order chain xs ys g h =
     same_parts (λ f o. IsChain (blocks_of p f) profile o) (λ f one two. chain (blocks_of p f) profile one two) xs ys
     (order (edge p.funcs profile) (count p.funcs profile) (chosen p profile) (map moved_func xs) (map moved_func ys) g.funcs h.funcs) g.orders h.orders
 
-pub is_plan : (p q : Picture) (profile : List Counted) (funcs order : List ℕ) (parts : List Moved) → q ≡ p → funcs ≡ chosen q profile
-    → IsClosest (edge p.funcs profile) (count p.funcs profile) funcs order → map moved_func parts ≡ order → All (λ m. IsChain (blocks_of q m.func) profile m.order) parts → IsPlanFor p profile parts
-is_plan p q profile funcs order parts same is closest moved chains =
-    record {
-      funcs = rw moved (rw (is, same) at closest);
-      orders = subst (λ (r : Picture). All (λ m. IsChain (blocks_of r m.func) profile m.order) parts) same chains;
-    }
-
--- the order of the functions that were chosen
-pub chosen_order : (p q : Picture) (profile : List Counted) (funcs order : List ℕ) → q ≡ p → funcs ≡ chosen q profile → IsClosest (edge p.funcs profile) (count p.funcs profile) funcs order
-    → All (λ f. f < length q.funcs) order × All (λ f. fault_of q f ≡ None) order
-chosen_order p q profile funcs order same is closest =
-    let c : IsClosest (edge p.funcs profile) (count p.funcs profile) (chosen p profile) order = rw (is, same) at closest in
-    rw same (all_there (edge p.funcs profile) (count p.funcs profile) p profile order c, all_readable (edge p.funcs profile) (count p.funcs profile) p profile order c)
-
-funcs_push : (parts : List Moved) (m : Moved) → map moved_func (parts ++ m ∷ []) ≡ map moved_func parts ++ m.func ∷ []
-funcs_push [] m = refl
-funcs_push (n ∷ parts) m = ap (λ (fs : List ℕ). n.func ∷ fs) (funcs_push parts m)
-
--- one function more
-pub funcs_more : (parts : List Moved) (m : Moved) (funcs : List ℕ) (i : ℕ) → map moved_func parts ≡ take i funcs → m.func ≡ get_or funcs i 0 → i < length funcs → map moved_func (parts ++ m ∷ []) ≡ take (i + 1) funcs
-funcs_more parts m funcs i e h l = funcs_push parts m ∙ rw (e, h) (sym (take_more funcs i 0 l))
+pub is_plan : (p q : Picture) (profile : List Counted) (order : List ℕ) (parts : List Moved) → q ≡ p → IsClosest (edge q.funcs profile) (count q.funcs profile) (chosen q profile) order → AreParts q profile order parts
+    → IsPlanFor p profile parts
+is_plan p q profile order parts same closest are = subst (λ (r : Picture). IsPlanFor r profile parts) same (record { funcs = rw are.moved closest; orders = are.orders })

@@ -1,6 +1,7 @@
 pub mod Accepted
 pub mod Chained
 pub mod Chosen
+pub mod Chunks
 pub mod Cut
 pub mod Gathered
 pub mod Grouped

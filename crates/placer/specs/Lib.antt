@@ -1,3 +1,5 @@
 pub mod Chosen
+pub mod Joined
+pub mod Placing
 pub mod Planned
 pub mod Shares

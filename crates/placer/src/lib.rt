@@ -4,7 +4,11 @@
 mod blocks_of;
 mod choose;
 pub mod laws;
+mod order;
 mod parts;
+pub mod place;
+pub mod placed;
 pub mod plan;
 mod rows;
 mod share;
+mod spread;

@@ -3,9 +3,9 @@
 ghost use Rattle.std.specs.Prelude.{◌≡◌, ◌<◌, length, slice_get, map, All, Some, None, IfOk};
 ghost use Rattle.blocks.specs.Blocks.{blocks_of};
 ghost use Rattle.blocks.specs.Faults.{fault_of};
-ghost use Rattle.plans.specs.Plans.{moved_func};
 ghost use Rattle.branch_ring.specs.Profiles.{counted, IsKept};
 ghost use Rattle.place_blocks.specs.Orders.{IsChain};
+ghost use Rattle.placer.specs.Planned.{AreParts};
 ghost use Rattle.placer.specs.Shares.{AreTargets};
 
 use crate::blocks_of::blocks_of;
@@ -58,6 +58,28 @@ fn part(
     })
 }
 
+/// Each of some functions with its blocks in chains, out of a profile's rows by their sources and by their targets.
+pub fn parts_of(
+    alloc: Global,
+    index: &FuncIndex,
+    rows: &[Row],
+    targets: &[Row],
+    funcs: &[u32],
+) -> Result<Vec<Moved>, NoMemory>
+    requires there { All (λ f. f < length index.now.image.now.funcs) funcs.now }
+    requires readable { All (λ f. fault_of index.now.image.now f ≡ None) funcs.now }
+    requires kept { IsKept (map counted rows.now) }
+    requires targets { AreTargets rows.now targets.now }
+    ensures { IfOk result (λ parts. AreParts index.now.image.now (map counted rows.now) funcs.now parts.items) }
+{
+    let mut parts = Vec::with_capacity(alloc, funcs.len())?;
+    for f in funcs {
+        let moved = part(alloc, index, rows, targets, *f)?;
+        parts.push(moved)?;
+    }
+    Ok(parts)
+}
+
 /// Each of some functions with its blocks in chains.
 pub fn parts(
     alloc: Global,
@@ -67,16 +89,11 @@ pub fn parts(
 ) -> Result<Vec<Moved>, NoMemory>
     requires there { All (λ f. f < length index.now.image.now.funcs) funcs.now }
     requires readable { All (λ f. fault_of index.now.image.now f ≡ None) funcs.now }
-    ensures funcs { IfOk result (λ parts. map moved_func parts.items ≡ funcs.now) }
-    ensures orders { IfOk result (λ parts. All (λ m. IsChain (blocks_of index.now.image.now m.func) profile.now m.order) parts.items) }
+    ensures { IfOk result (λ parts. AreParts index.now.image.now profile.now funcs.now parts.items) }
 {
     profile.kept();
     let rows = profile.counts();
     let targets = by_target(alloc, rows)?;
-    let mut parts = Vec::with_capacity(alloc, funcs.len())?;
-    for f in funcs {
-        let moved = part(alloc, index, rows, &targets, *f)?;
-        parts.push(moved)?;
-    }
+    let parts = parts_of(alloc, index, rows, &targets, funcs)?;
     Ok(parts)
 }

@@ -4,19 +4,18 @@ ghost use Rattle.std.specs.Prelude.{◌≡◌, None, IfOk};
 ghost use Rattle.plans.specs.Given.{plan_fault};
 ghost use Rattle.placer.specs.Planned.{IsPlanFor};
 
-use crate::choose::chosen;
+use crate::laws::fit_plans;
+use crate::order::order;
 use crate::parts::parts;
 use blocks::index::FuncIndex;
 use branch_ring::profile::Profile;
 use image::picture::Image;
 use oc_base::fault::NoMemory;
-use place_funcs::closest::closest;
-use plans::laws::plans_of;
 use plans::plan::{Moved, Plan, PlanFault};
 use std::alloc::Global;
 
 /// The plan of an image that has parts without a fault.
-fn plan_with(alloc: Global, image: &Image, parts: &[Moved]) -> Result<Plan, NoMemory>
+pub fn plan_with(alloc: Global, image: &Image, parts: &[Moved]) -> Result<Plan, NoMemory>
     requires { plan_fault image.now parts.now ≡ None }
     ensures { IfOk result (λ plan. plan ≡ parts.now) }
 {
@@ -33,10 +32,9 @@ pub fn plan_of(alloc: Global, image: &Image, profile: &Profile) -> Result<Plan, 
     ensures plan { IfOk result (λ plan. IsPlanFor image.now profile.now plan) }
     ensures given { IfOk result (λ plan. plan_fault image.now plan ≡ None) }
 {
-    plans_of();
+    fit_plans();
     let index = FuncIndex::new(alloc, image)?;
-    let funcs = chosen(alloc, &index, profile)?;
-    let order = closest(alloc, image, &funcs, profile)?;
+    let order = order(alloc, &index, profile)?;
     let parts = parts(alloc, &index, profile, &order)?;
     let plan = plan_with(alloc, image, &parts)?;
     Ok(plan)
