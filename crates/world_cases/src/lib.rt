@@ -2,6 +2,8 @@
 #![tactic(auto)]
 
 #[cfg(test)]
+mod recording_tests;
+#[cfg(test)]
 mod replacement_tests;
 #[cfg(test)]
 mod telling;

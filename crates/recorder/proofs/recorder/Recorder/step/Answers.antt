@@ -1,0 +1,28 @@
+use Rattle.std.proofs.Common.{ap, ◌∙◌, subst, arith}
+use Rattle.recorder.specs.declared.journal.Asked.TheVariants.{Step}
+use Rattle.recorder.specs.Journals.{journal_of, noted}
+use Rattle.recorder.specs.Recording.{Recorded}
+use Rattle.recorder.proofs.Adding.{Adds, run_of_log, step_adds}
+use Rattle.recorder.proofs.Reaching.{step_reaches}
+use Rattle.recorder.proofs.Unfolding.{noted_unfolds}
+use Rattle.recorder.proofs.recorder.Recorder.step.Goals as goal
+use Rattle.world.specs.Runs.{a_step, is_over, of_real}
+
+pub invariant_of-self-2 : goal.invariant_of-self-2
+invariant_of-self-2 c =
+    let range = c.real-real.type_inv in
+    let real = c.real-real.ensures in
+    step_reaches c.args.h c.self.inside.world c.step.new.self c.self.inside.marks (omega (arith, range, real)) c.in-Ok-step.ensures.step c.self.invariant
+
+pub returns-clause-unfolds : goal.returns-clause-unfolds
+returns-clause-unfolds c =
+    noted_unfolds (is_over c.in-Ok-step.kind) (Step c.args.h) c.args.self.now.journal (journal_of c.note.new.self)
+    (c.note.ensures ∙ ap (λ b. noted b (Step c.args.h) (journal_of c.room.new.self)) c.is_over.ensures
+    ∙ ap (noted (is_over c.in-Ok-step.kind) (Step c.args.h)) (c.room.ensures.same ∙ ap (λ (x : Recorded). x.journal) c.self.view_is))
+
+pub returns-clause-runs : goal.returns-clause-runs
+returns-clause-runs c =
+    let k = c.in-Ok-step.kind in
+    let made = step_adds c.args.h k c.self.inside.world c.step.new.self c.in-Ok-step.ensures.kind c.in-Ok-step.ensures.step c.in-Ok-step.ensures.over.0 in
+    run_of_log (is_over k) (a_step c.args.h) (of_real k c.args.h) c.args.self.now c.note.new.self.entries.items c.step.new.self (returns-clause-unfolds c)
+    (subst (λ x. Adds (is_over k) (a_step c.args.h) (of_real k c.args.h) x c.step.new.self) (ap (λ (x : Recorded). x.at) c.self.view_is) made)

@@ -1,0 +1,3 @@
+pub mod Journals
+pub mod Marking
+pub mod Recording
