@@ -3,3 +3,7 @@
 
 #[cfg(test)]
 mod plan_tests;
+#[cfg(test)]
+mod runs;
+#[cfg(test)]
+mod thread_tests;

@@ -1,39 +1,17 @@
 //! Plans of profiles. A row is a guest, transfers as `from>to`, some with how often they are made, and the plan of their profile, as
 //! functions with their blocks in order. What is wanted was told by an independent implementation.
 
-use branch_ring::profile::profile_of;
-use branch_ring::ring::Ring;
-use cases::orders::{number, plan_text};
+use crate::runs::profile_of_run;
+use cases::orders::plan_text;
 use cases::rows::check;
 use image::picture::Image;
 use placer::plan::plan_of;
 use std::alloc::Global;
 use std::test::Fail;
 
-/// The number that hexadecimal digits say.
-fn address(word: &str) -> u64 {
-    u64::from_str_radix(word, 16).unwrap_or(u64::MAX)
-}
-
-/// Notes a transfer as often as a word such as `10018>10014*3` says.
-fn note(ring: &mut Ring, word: &str) {
-    let (pair, times) = word.split_once('*').unwrap_or((word, "1"));
-    let (from, to) = pair.split_once('>').unwrap_or(("", ""));
-    for _ in 0..number(times) {
-        ring.note(address(from), address(to));
-    }
-}
-
 /// The plan of the profile of some transfers.
 fn planned(alloc: Global, image: &Image, case: &str) -> Result<String, Fail> {
-    let mut ring = Ring::new(alloc, 64)?;
-    for word in case.split_whitespace() {
-        note(&mut ring, word);
-    }
-    if ring.len() > 1000 {
-        return Err(Fail::new("too many"));
-    }
-    let profile = profile_of(alloc, &[ring])?;
+    let profile = profile_of_run(alloc, case)?;
     let plan = plan_of(alloc, image, &profile)?;
     Ok(plan_text(alloc, &plan)?)
 }
