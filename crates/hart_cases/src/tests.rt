@@ -3,6 +3,8 @@
 //! A case is a schedule, as harts and their numbers of steps, and what is wanted: the outcome, what was written to output 1,
 //! and what each hart does: L for live, W with its address for waiting, E for ended.
 
+use cases::orders::number;
+use cases::rows::expect;
 use elf_make::make::make_elf;
 use elf_read::read::read_elf;
 use guest_mem::paged::PagedMem;
@@ -16,7 +18,6 @@ use relocs::build::build_image;
 use rv_asm::assemble::assemble;
 use rv_isa::instr::Width;
 use std::alloc::{AllocError, Global};
-use std::fmt::Write;
 use std::test::Fail;
 
 /// A hart waits at a word, and the hart that it made wakes it. It is then answered 0, and writes A.
@@ -298,106 +299,136 @@ again:
 .end
 ";
 
-/// The image of a text's program.
-fn image_of(alloc: Global, text: &str) -> Result<Image, Fail> {
+/// The file of a text's program.
+fn file_of(alloc: Global, text: &str) -> Result<Vec<u8>, Fail> {
     let text = text.as_bytes();
     if text.len() > 67_108_864 {
         return Err(Fail::new("too long"));
     }
-    let program = assemble(alloc, text)?;
-    let file = make_elf(alloc, &program)?;
-    let parts = read_elf(alloc, file.as_slice())?;
-    Ok(build_image(alloc, &parts, None)?)
+    let Ok(program) = assemble(alloc, text) else {
+        return Err(Fail::new("no program"));
+    };
+    Ok(make_elf(alloc, &program)?.into_vec())
 }
 
-fn number(word: &str) -> u32 {
-    let mut number: u32 = 0;
-    for digit in word.bytes() {
-        number = number
-            .wrapping_mul(10)
-            .wrapping_add(u32::from(digit.wrapping_sub(b'0')));
+/// The image of a text's program.
+fn image_of(alloc: Global, text: &str) -> Result<Image, Fail> {
+    let file = file_of(alloc, text)?;
+    let Ok(parts) = read_elf(alloc, &file) else {
+        return Err(Fail::new("no executable"));
+    };
+    let Ok(image) = build_image(alloc, &parts, None) else {
+        return Err(Fail::new("no image"));
+    };
+    Ok(image)
+}
+
+/// The machine of an image at its start, with the input `abc`.
+fn start(alloc: Global, image: &Image) -> Result<Machine, Fail> {
+    let input = Vec::from_slice(alloc, b"abc")?;
+    Ok(Machine::start(alloc, image, input)?)
+}
+
+/// What is answered to a case of a text's program.
+fn answer_of<F>(alloc: Global, text: &str, case: &str, answer: &F) -> Result<String, Fail>
+where
+    F: Fn(Global, &Image, &str) -> Result<String, Fail>,
+    requires { F.IsAlwaysCallable answer.now }
+{
+    let image = image_of(alloc, text)?;
+    answer(alloc, &image, case)
+}
+
+/// Fails at the first case of a text's program, such as `0*5 = runs  LL`, to which another answer than the wanted one is given.
+fn check<F>(alloc: Global, text: &str, cases: &str, answer: F) -> Result<(), Fail>
+where
+    F: Fn(Global, &Image, &str) -> Result<String, Fail>,
+    requires { F.IsAlwaysCallable answer }
+{
+    for row in cases.lines() {
+        let (case, wanted) = row.split_once(" = ").unwrap_or((row, ""));
+        let got = answer_of(alloc, text, case, &answer)?;
+        expect(alloc, row, got.as_str(), wanted)?;
     }
-    number
+    Ok(())
+}
+
+/// Hart and number of steps of a visit such as `0*13`.
+fn visit_of(visit: &str) -> (u32, u32) {
+    let (hart, steps) = visit.split_once('*').unwrap_or(("", ""));
+    (number(hart), number(steps))
 }
 
 /// Runs a machine by a schedule such as `0*13 1*7`.
 fn run(machine: &mut Machine, image: &Image, schedule: &str) -> Result<(), Fail> {
     for visit in schedule.split_whitespace() {
-        let (hart, steps) = visit.split_once('*').unwrap_or(("", ""));
-        machine.run(image, number(hart), u64::from(number(steps)))?;
+        let (hart, steps) = visit_of(visit);
+        machine.run(image, hart, u64::from(steps))?;
     }
     Ok(())
 }
 
-fn shown(alloc: Global, status: Status) -> Result<String, AllocError> {
-    match status {
-        Status::Live => format!(in alloc; "L"),
-        Status::Waiting(at) => format!(in alloc; "W{at:x}"),
-        Status::Ended => format!(in alloc; "E"),
+/// Adds how a run ended, if it did.
+fn add_ending(text: &mut String, outcome: Option<Outcome>) -> Result<(), AllocError> {
+    match outcome {
+        None => text.push_str("runs"),
+        Some(Outcome::Exit(status)) => write!(text, "exit {status}"),
+        Some(Outcome::Trap { cause, pc, value }) => {
+            write!(text, "trap {cause} at {pc:x} value {value:x}")
+        }
+        Some(Outcome::Stalled) => text.push_str("stalled"),
+        Some(Outcome::HartsFull) => text.push_str("harts full"),
+        Some(_) => text.push_str("ended otherwise"),
     }
 }
 
-/// How a run ended, if it did.
-fn ending(alloc: Global, outcome: Option<Outcome>) -> Result<String, AllocError> {
-    match outcome {
-        None => String::from_str(alloc, "runs"),
-        Some(Outcome::Exit(status)) => format!(in alloc; "exit {status}"),
-        Some(Outcome::Trap { cause, pc, value }) => {
-            format!(in alloc; "trap {cause} at {pc:x} value {value:x}")
-        }
-        Some(Outcome::Stalled) => String::from_str(alloc, "stalled"),
-        Some(Outcome::HartsFull) => String::from_str(alloc, "harts full"),
-        Some(_) => String::from_str(alloc, "ended otherwise"),
+fn add_output(text: &mut String, bytes: &[u8]) -> Result<(), AllocError> {
+    for byte in bytes {
+        text.push(char::from(*byte))?;
     }
+    Ok(())
+}
+
+fn add_status(text: &mut String, status: Status) -> Result<(), AllocError> {
+    match status {
+        Status::Live => text.push_str("L"),
+        Status::Waiting(at) => write!(text, "W{at:x}"),
+        Status::Ended => text.push_str("E"),
+    }
+}
+
+fn add_harts(text: &mut String, machine: &Machine) -> Result<(), AllocError> {
+    for h in 0..machine.made() {
+        add_status(text, machine.hart(h).status)?;
+    }
+    Ok(())
 }
 
 /// What became of a run.
 fn state_of(alloc: Global, machine: &Machine) -> Result<String, AllocError> {
-    let mut text = ending(alloc, machine.outcome())?;
+    let mut text = String::new(alloc);
+    add_ending(&mut text, machine.outcome())?;
     text.push(' ')?;
-    for byte in machine.output(1) {
-        text.push(char::from(*byte))?;
-    }
+    add_output(&mut text, machine.output(1))?;
     text.push(' ')?;
-    for h in 0..machine.made() {
-        text.push_str(shown(alloc, machine.hart(h).status)?.as_str())?;
-    }
+    add_harts(&mut text, machine)?;
     Ok(text)
 }
 
-/// What becomes of a program under a schedule, with the input `abc`.
+fn state_after(
+    alloc: Global,
+    image: &Image,
+    machine: &mut Machine,
+    schedule: &str,
+) -> Result<String, Fail> {
+    run(machine, image, schedule)?;
+    Ok(state_of(alloc, machine)?)
+}
+
+/// What becomes of a program under a schedule.
 fn played(alloc: Global, image: &Image, schedule: &str) -> Result<String, Fail> {
-    let input = Vec::from_slice(alloc, b"abc")?;
-    let mut machine = Machine::start(alloc, image, input)?;
-    run(&mut machine, image, schedule)?;
-    Ok(state_of(alloc, &machine)?)
-}
-
-/// A case that ends otherwise than is wanted, and how.
-#[derive(Debug, Drop)]
-struct Wrong {
-    case: String,
-    got: String,
-}
-
-/// Plays a case of a program.
-fn play(alloc: Global, image: &Image, case: &str) -> Result<(), Fail> {
-    let (schedule, wanted) = case.split_once(" = ").unwrap_or(("", ""));
-    let got = played(alloc, image, schedule)?;
-    if got.as_str() != wanted {
-        let case = format!(in alloc; "{case}")?;
-        Err(Wrong { case, got })?;
-    }
-    Ok(())
-}
-
-/// Plays each case of a text's program.
-fn play_all(alloc: Global, text: &str, cases: &str) -> Result<(), Fail> {
-    let image = image_of(alloc, text)?;
-    for case in cases.lines() {
-        play(alloc, &image, case)?;
-    }
-    Ok(())
+    let mut machine = start(alloc, image)?;
+    state_after(alloc, image, &mut machine, schedule)
 }
 
 const HANDOVER_CASES: &str = "\
@@ -414,7 +445,7 @@ const HANDOVER_CASES: &str = "\
 
 #[test]
 fn a_hart_waits_until_it_is_woken(rt: HostRuntime) -> Result<(), Fail> {
-    play_all(rt.alloc(), HANDOVER, HANDOVER_CASES)
+    check(rt.alloc(), HANDOVER, HANDOVER_CASES, played)
 }
 
 const RESERVE_CASES: &str = "\
@@ -423,7 +454,7 @@ const RESERVE_CASES: &str = "\
 
 #[test]
 fn accesses_of_others_take_a_reservation_away(rt: HostRuntime) -> Result<(), Fail> {
-    play_all(rt.alloc(), RESERVE, RESERVE_CASES)
+    check(rt.alloc(), RESERVE, RESERVE_CASES, played)
 }
 
 const OWN_WRITE_CASES: &str = "\
@@ -432,7 +463,7 @@ const OWN_WRITE_CASES: &str = "\
 
 #[test]
 fn the_system_takes_the_callers_reservation_too(rt: HostRuntime) -> Result<(), Fail> {
-    play_all(rt.alloc(), OWN_WRITE, OWN_WRITE_CASES)
+    check(rt.alloc(), OWN_WRITE, OWN_WRITE_CASES, played)
 }
 
 const MAPPING_CASES: &str = "\
@@ -442,7 +473,7 @@ const MAPPING_CASES: &str = "\
 
 #[test]
 fn memory_is_mapped_and_given_up(rt: HostRuntime) -> Result<(), Fail> {
-    play_all(rt.alloc(), MAPPING, MAPPING_CASES)
+    check(rt.alloc(), MAPPING, MAPPING_CASES, played)
 }
 
 const STALLED_CASES: &str = "\
@@ -455,7 +486,7 @@ const STALLED_CASES: &str = "\
 
 #[test]
 fn a_run_stalls_where_all_that_are_left_wait(rt: HostRuntime) -> Result<(), Fail> {
-    play_all(rt.alloc(), STALLED, STALLED_CASES)
+    check(rt.alloc(), STALLED, STALLED_CASES, played)
 }
 
 const ENDING_CASES: &str = "\
@@ -466,7 +497,7 @@ const ENDING_CASES: &str = "\
 
 #[test]
 fn a_hart_that_ends_wakes_who_waits_for_it(rt: HostRuntime) -> Result<(), Fail> {
-    play_all(rt.alloc(), ENDING, ENDING_CASES)
+    check(rt.alloc(), ENDING, ENDING_CASES, played)
 }
 
 const ORDER_CASES: &str = "\
@@ -477,7 +508,7 @@ const ORDER_CASES: &str = "\
 
 #[test]
 fn the_longest_waiting_is_woken(rt: HostRuntime) -> Result<(), Fail> {
-    play_all(rt.alloc(), ORDER, ORDER_CASES)
+    check(rt.alloc(), ORDER, ORDER_CASES, played)
 }
 
 const REQUEUE_CASES: &str = "\
@@ -489,7 +520,7 @@ const REQUEUE_CASES: &str = "\
 
 #[test]
 fn a_requeued_hart_waits_at_its_new_address(rt: HostRuntime) -> Result<(), Fail> {
-    play_all(rt.alloc(), REQUEUE, REQUEUE_CASES)
+    check(rt.alloc(), REQUEUE, REQUEUE_CASES, played)
 }
 
 const MANY_CASES: &str = "\
@@ -499,41 +530,72 @@ const MANY_CASES: &str = "\
 
 #[test]
 fn harts_are_counted_up_to_their_limit(rt: HostRuntime) -> Result<(), Fail> {
-    play_all(rt.alloc(), MANY, MANY_CASES)
+    check(rt.alloc(), MANY, MANY_CASES, played)
 }
+
+/// What a machine tells of its harts and links once hart 0 was set to an address.
+fn state_with(alloc: Global, machine: &mut Machine, pc: u64) -> Result<String, Fail> {
+    let regs = machine.hart(0).regs;
+    machine.set_hart(0, regs, pc);
+    let links = machine.links(alloc)?.len();
+    let (pc, first, second) = (machine.hart(0).pc, machine.is_live(0), machine.is_live(1));
+    Ok(format!(in alloc; "{pc} {links} {first} {second}")?)
+}
+
+fn set(alloc: Global, image: &Image, pc: &str) -> Result<String, Fail> {
+    let mut machine = start(alloc, image)?;
+    state_with(alloc, &mut machine, u64::from(number(pc)))
+}
+
+const SET_CASES: &str = "\
+65560 = 65560 0 true false
+";
 
 #[test]
 fn harts_and_links_can_be_set(rt: HostRuntime) -> Result<(), Fail> {
-    let alloc = rt.alloc();
-    let image = image_of(alloc, STALLED)?;
-    let mut machine = Machine::start(alloc, &image, Vec::new(alloc))?;
-    let regs = machine.hart(0).regs;
-    machine.set_hart(0, regs, 65_560);
-    assert_eq!(rt; machine.hart(0).pc, 65_560);
-    assert!(rt; machine.links(alloc)?.is_empty());
-    assert!(rt; machine.is_live(0));
-    assert!(rt; !machine.is_live(1));
-    Ok(())
+    check(rt.alloc(), STALLED, SET_CASES, set)
 }
 
-/// The number in the 4 bytes at an address, read from the pages.
-fn number_at(memory: &PagedMem, at: u64) -> Option<u64> {
+/// Adds the number in the 4 bytes at an address, read from the pages, or that it can't be read.
+fn add_number(text: &mut String, memory: &PagedMem, at: u64) -> Result<(), AllocError> {
     match memory.load(at, Width::W, &Same) {
-        Ok(value) => Some(value.number),
-        Err(_) => None,
+        Ok(value) => write!(text, "{}", value.number),
+        Err(_) => text.push_str("none"),
     }
 }
 
+fn pages_of(alloc: Global, memory: &PagedMem) -> Result<String, AllocError> {
+    let mut text = String::new(alloc);
+    add_number(&mut text, memory, 0x11000)?;
+    text.push(' ')?;
+    add_number(&mut text, memory, 0)?;
+    Ok(text)
+}
+
+fn pages_after(
+    alloc: Global,
+    image: &Image,
+    machine: &mut Machine,
+    schedule: &str,
+) -> Result<String, Fail> {
+    run(machine, image, schedule)?;
+    Ok(pages_of(alloc, machine.memory())?)
+}
+
+/// What the pages have at 0x11000 and at 0 after a schedule.
+fn paged(alloc: Global, image: &Image, schedule: &str) -> Result<String, Fail> {
+    let mut machine = start(alloc, image)?;
+    pages_after(alloc, image, &mut machine, schedule)
+}
+
+const PAGES_CASES: &str = "\
+0*0 = 0 none
+0*5 1*4 = 1 none
+";
+
 #[test]
 fn the_pages_of_a_machine_have_what_its_harts_stored(rt: HostRuntime) -> Result<(), Fail> {
-    let alloc = rt.alloc();
-    let image = image_of(alloc, HANDOVER)?;
-    let mut machine = Machine::start(alloc, &image, Vec::new(alloc))?;
-    assert_eq!(rt; number_at(machine.memory(), 0x11000), Some(0));
-    run(&mut machine, &image, "0*5 1*4")?;
-    assert_eq!(rt; number_at(machine.memory(), 0x11000), Some(1));
-    assert_eq!(rt; number_at(machine.memory(), 0), None);
-    Ok(())
+    check(rt.alloc(), HANDOVER, PAGES_CASES, paged)
 }
 
 /// A call, a return, a branch that isn't taken, and a jump that ends the run.
@@ -566,45 +628,60 @@ fn add_transfer(
     h: u32,
 ) -> Result<(), Fail> {
     if let Some((from, to)) = transfer(machine, image, h)? {
-        write!(text, "{from:x}-{to:x} ")?;
+        write!(text, "{h}:{from:x}-{to:x} ")?;
     }
     Ok(())
 }
 
-/// The transfers of a hart in so many steps.
-fn transfers(
-    alloc: Global,
+/// Adds the transfers of a visit.
+fn add_transfers(
+    text: &mut String,
     machine: &mut Machine,
     image: &Image,
-    h: u32,
-    steps: u32,
+    visit: &str,
+) -> Result<(), Fail> {
+    let (hart, steps) = visit_of(visit);
+    for _step in 0..steps {
+        add_transfer(text, machine, image, hart)?;
+    }
+    Ok(())
+}
+
+fn transfers_of(
+    alloc: Global,
+    image: &Image,
+    machine: &mut Machine,
+    schedule: &str,
 ) -> Result<String, Fail> {
     let mut text = String::new(alloc);
-    for _step in 0..steps {
-        add_transfer(&mut text, machine, image, h)?;
+    for visit in schedule.split_whitespace() {
+        add_transfers(&mut text, machine, image, visit)?;
     }
+    add_ending(&mut text, machine.outcome())?;
     Ok(text)
 }
 
+/// The transfers of a program under a schedule.
+fn transferred(alloc: Global, image: &Image, schedule: &str) -> Result<String, Fail> {
+    let mut machine = start(alloc, image)?;
+    transfers_of(alloc, image, &mut machine, schedule)
+}
+
+const JUMPS_CASES: &str = "\
+0*3 = 0:10000-1000c 0:1000c-10004 0:10004-10008 runs
+0*9 = 0:10000-1000c 0:1000c-10004 0:10004-10008 trap 1 at 10008 value 0
+";
+
 #[test]
 fn a_step_on_a_branch_or_a_jump_is_a_transfer(rt: HostRuntime) -> Result<(), Fail> {
-    let alloc = rt.alloc();
-    let image = image_of(alloc, JUMPS)?;
-    let mut machine = Machine::start(alloc, &image, Vec::new(alloc))?;
-    let text = transfers(alloc, &mut machine, &image, 0, 9)?;
-    assert_eq!(rt; text.as_str(), "10000-1000c 1000c-10004 10004-10008 ");
-    assert!(rt; machine.outcome().is_some());
-    Ok(())
+    check(rt.alloc(), JUMPS, JUMPS_CASES, transferred)
 }
+
+const SIDES_CASES: &str = "\
+0*13 1*20 = 0:10018-1001c 1:10018-10060 runs
+";
 
 #[test]
 fn each_hart_takes_its_own_side_of_a_branch(rt: HostRuntime) -> Result<(), Fail> {
-    let alloc = rt.alloc();
-    let image = image_of(alloc, HANDOVER)?;
-    let mut machine = Machine::start(alloc, &image, Vec::new(alloc))?;
-    let first = transfers(alloc, &mut machine, &image, 0, 13)?;
-    let second = transfers(alloc, &mut machine, &image, 1, 20)?;
-    assert_eq!(rt; first.as_str(), "10018-1001c ");
-    assert_eq!(rt; second.as_str(), "10018-10060 ");
-    Ok(())
+    check(rt.alloc(), HANDOVER, SIDES_CASES, transferred)
 }
