@@ -2,8 +2,6 @@
 #![tactic(auto)]
 
 #[cfg(test)]
-mod recording_tests;
-#[cfg(test)]
 mod replacement_tests;
 #[cfg(test)]
 mod telling;

@@ -126,25 +126,32 @@ fn due_text(due: Due) -> &'static str {
     }
 }
 
-/// The log as a script, with `/` at the end of each line.
-fn log_text(alloc: Global, recorder: &Recorder) -> Result<String, Fail> {
-    let mut text = String::new(alloc);
-    for byte in write_log(alloc, recorder.log())?.as_slice() {
+/// Adds the log as a script, with `/` at the end of each line.
+fn add_log(text: &mut String, alloc: Global, recorder: &Recorder) -> Result<(), Fail> {
+    let script = write_log(alloc, recorder.log())?;
+    for byte in script.as_slice() {
         text.push(if *byte == b'\n' { '/' } else { *byte as char })?;
     }
-    Ok(text)
+    Ok(())
 }
 
-/// What `log` or `due N` tells; nothing for another command.
-fn answer(alloc: Global, recorder: &Recorder, command: &str) -> Result<Option<String>, Fail> {
+/// Adds what `log` or `due N` tells, or obeys another command.
+fn add(
+    text: &mut String,
+    alloc: Global,
+    recorder: &mut Recorder,
+    command: &str,
+) -> Result<(), Fail> {
     if command == "log" {
-        return Ok(Some(log_text(alloc, recorder)?));
+        separate(text, ", ")?;
+        return add_log(text, alloc, recorder);
     }
     let Some(every) = command.strip_prefix("due ") else {
-        return Ok(None);
+        return obey(alloc, recorder, command);
     };
+    separate(text, ", ")?;
     let due = recorder.due(u64::from(number(every)));
-    Ok(Some(String::from_str(alloc, due_text(due))?))
+    Ok(text.push_str(due_text(due))?)
 }
 
 fn begun(alloc: Global, guest: &str) -> Result<Recorder, Fail> {
@@ -155,19 +162,18 @@ fn begun(alloc: Global, guest: &str) -> Result<Recorder, Fail> {
     Ok(Recorder::keep_log(alloc, world))
 }
 
+fn told_by(alloc: Global, recorder: &mut Recorder, commands: &str) -> Result<String, Fail> {
+    let mut text = String::new(alloc);
+    for command in commands.split(", ") {
+        add(&mut text, alloc, recorder, command)?;
+    }
+    Ok(text)
+}
+
 /// What is told of a guest under commands, which stand apart by `, `.
 fn told(alloc: Global, guest: &str, commands: &str) -> Result<String, Fail> {
     let mut recorder = begun(alloc, guest)?;
-    let mut text = String::new(alloc);
-    for command in commands.split(", ") {
-        let Some(answer) = answer(alloc, &recorder, command)? else {
-            obey(alloc, &mut recorder, command)?;
-            continue;
-        };
-        separate(&mut text, ", ")?;
-        text.push_str(&answer)?;
-    }
-    Ok(text)
+    told_by(alloc, &mut recorder, commands)
 }
 
 fn check(alloc: Global, rows: &str) -> Result<(), Fail> {
