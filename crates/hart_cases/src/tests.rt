@@ -533,18 +533,29 @@ fn harts_are_counted_up_to_their_limit(rt: HostRuntime) -> Result<(), Fail> {
     check(rt.alloc(), MANY, MANY_CASES, played)
 }
 
-/// What a machine tells of its harts and links once hart 0 was set to an address.
-fn state_with(alloc: Global, machine: &mut Machine, pc: u64) -> Result<String, Fail> {
-    let regs = machine.hart(0).regs;
-    machine.set_hart(0, regs, pc);
+/// Address of hart 0, number of links, and which of the first two harts are live.
+fn harts_of(alloc: Global, machine: &Machine) -> Result<String, Fail> {
+    if machine.made() == 0 {
+        return Err(Fail::new("no hart"));
+    }
     let links = machine.links(alloc)?.len();
     let (pc, first, second) = (machine.hart(0).pc, machine.is_live(0), machine.is_live(1));
     Ok(format!(in alloc; "{pc} {links} {first} {second}")?)
 }
 
+fn harts_with(alloc: Global, machine: &mut Machine, pc: u64) -> Result<String, Fail> {
+    if machine.made() == 0 {
+        return Err(Fail::new("no hart"));
+    }
+    let regs = machine.hart(0).regs;
+    machine.set_hart(0, regs, pc);
+    harts_of(alloc, machine)
+}
+
+/// What a machine tells of its harts once hart 0 was set to an address.
 fn set(alloc: Global, image: &Image, pc: &str) -> Result<String, Fail> {
     let mut machine = start(alloc, image)?;
-    state_with(alloc, &mut machine, u64::from(number(pc)))
+    harts_with(alloc, &mut machine, u64::from(number(pc)))
 }
 
 const SET_CASES: &str = "\
