@@ -1,0 +1,9 @@
+pub mod Alike
+pub mod Parts
+pub mod Entries
+pub mod Owed
+pub mod Logs
+pub mod Books
+pub mod Attempts
+pub mod Runnings
+pub mod Opened

@@ -1,0 +1,45 @@
+-- What is kept of a run between two lock sections, and how a run ends. Source: this project.
+use Rattle.std.specs.Prelude.{◌≡◌, ◌≤◌, ◌<◌, ℕ, ◌⊎◌, false, length, slice_get, Option, Some, None}
+use Rattle.machine.specs.declared.outcome.Outcome.{Outcome}
+use Rattle.pacing.specs.Limits.{entry_limit}
+use Rattle.recorder.specs.Recording.{Recorded}
+use Rattle.run_book.specs.declared.ended.Ended.{Ended}
+use Rattle.run_book.specs.declared.ended.Ended.TheVariants as ended
+use Rattle.run_book.specs.declared.running.Running.{Running}
+use Rattle.run_book.specs.Terms.{Terms, AreFair}
+use Rattle.run_book.specs.Told.{told}
+use Rattle.run_book.specs.Sections.{IsRunOf, IsAmid, IsAtRest, AreLast, IsChosen}
+
+-- the numbers of the terms
+pub record HasTerms (t : Terms) (r : Running) : Type 0 where
+  pub fair : AreFair t
+  pub workers : r.workers ≡ t.workers
+  pub every : r.every ≡ t.every
+  pub limit : r.limit ≡ t.limit
+
+-- a run between two lock sections, of which the ledger has counted so many real steps
+pub record IsBook (t : Terms) (total : ℕ) (r : Running) : Type 0 where
+  pub terms : HasTerms t r
+  pub run : IsRunOf t r.recorder
+  pub sum : total ≡ r.recorder.at.counts.real
+  pub rests : r.spent ≡ false → IsAtRest t (told r.recorder)
+  pub last : r.spent ≡ false → AreLast t r.last.items (told r.recorder)
+
+-- the same right after a visit
+pub record IsVisited (t : Terms) (total : ℕ) (r : Running) : Type 0 where
+  pub terms : HasTerms t r
+  pub run : IsRunOf t r.recorder
+  pub sum : total ≡ r.recorder.at.counts.real
+  pub amid : r.spent ≡ false → IsAmid t 3 (told r.recorder)
+  pub last : r.spent ≡ false → AreLast t r.last.items (told r.recorder)
+
+-- hart h is the one that a worker serves next
+pub record MayServe (worker h : ℕ) (r : Running) : Type 0 where
+  pub is_worker : worker < r.workers
+  pub has_last : worker < length r.last.items
+  pub chosen : (g : Option ℕ) → slice_get r.last.items worker ≡ Some g → IsChosen r.workers worker g h r.recorder.at.machine
+
+-- why a run has ended: with an outcome, or else at the limit of real steps or of entries
+abbrev pub Ends : (limit : ℕ) → Recorded → Ended → Type 0
+Ends limit r (ended.Outcome o) = r.at.machine.outcome ≡ Some o
+Ends limit r ended.Limit = (r.at.machine.outcome ≡ None) × ((limit ≤ r.at.counts.real) ⊎ (entry_limit ≤ length r.journal.entries))
