@@ -1,6 +1,5 @@
 -- What is kept of a run between two lock sections, and how a run ends. Source: this project.
 use Rattle.std.specs.Prelude.{◌≡◌, ◌≤◌, ◌<◌, ℕ, ◌⊎◌, false, length, slice_get, Option, Some, None}
-use Rattle.machine.specs.declared.outcome.Outcome.{Outcome}
 use Rattle.pacing.specs.Limits.{entry_limit}
 use Rattle.recorder.specs.Recording.{Recorded}
 use Rattle.run_book.specs.declared.ended.Ended.{Ended}
