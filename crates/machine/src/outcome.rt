@@ -19,4 +19,6 @@ pub enum Outcome {
     Stalled,
     /// The script ended before the guest did.
     Unfinished,
+    /// A run of threads made at least so many real steps, or its log is full.
+    Limit { most: u64 },
 }

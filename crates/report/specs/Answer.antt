@@ -10,7 +10,7 @@ use Rattle.relocs.specs.declared.fault.ImageFault.{ImageFault}
 use Rattle.relocs.specs.declared.fault.ImageFault.TheVariants as image
 use Rattle.sched_log.specs.declared.fault.ScriptFault.{ScriptFault}
 use Rattle.sched_log.specs.declared.fault.ScriptFault.TheVariants as script
-use Rattle.machine.specs.declared.outcome.Outcome.TheVariants.{Exit, Trap, LinkUse, Landing, OutputFull, HartsFull, Stalled, Unfinished}
+use Rattle.machine.specs.declared.outcome.Outcome.TheVariants.{Exit, Trap, LinkUse, Landing, OutputFull, HartsFull, Stalled, Unfinished, Limit}
 
 abbrev pub status_of : Ended → ℕ
 status_of (Ran (Exit code)) = code
@@ -19,6 +19,7 @@ status_of (Ran HartsFull) = 113
 status_of (Ran (Landing pc)) = 114
 status_of (Ran Unfinished) = 115
 status_of (Ran Stalled) = 116
+status_of (Ran (Limit most)) = 117
 status_of (Ran (Trap cause pc value)) = 118
 status_of (Ran (LinkUse rule pc)) = 119
 status_of Usage = 120
@@ -72,6 +73,7 @@ line_of (Ran OutputFull) = codes "ocolos: output full\n"
 line_of (Ran HartsFull) = codes "ocolos: harts full\n"
 line_of (Ran Stalled) = codes "ocolos: stalled\n"
 line_of (Ran Unfinished) = codes "ocolos: unfinished\n"
+line_of (Ran (Limit most)) = codes "ocolos: limit " ++ decimal most ++ codes "\n"
 line_of (Ran (Trap cause pc value)) = codes "ocolos: trap " ++ decimal cause ++ codes " at 0x" ++ digits 16 false pc ++ codes " value 0x" ++ digits 16 false value ++ codes "\n"
 line_of (Ran (LinkUse rule pc)) = codes "ocolos: link use " ++ decimal rule ++ codes " at 0x" ++ digits 16 false pc ++ codes "\n"
 line_of (Ran (Landing pc)) = codes "ocolos: landing at 0x" ++ digits 16 false pc ++ codes "\n"

@@ -79,6 +79,7 @@ pub fn status(ended: &Ended) -> u8
         Ended::Ran(Outcome::Landing { .. }) => 114,
         Ended::Ran(Outcome::Unfinished) => 115,
         Ended::Ran(Outcome::Stalled) => 116,
+        Ended::Ran(Outcome::Limit { .. }) => 117,
         Ended::Ran(Outcome::Trap { .. }) => 118,
         Ended::Ran(Outcome::LinkUse { .. }) => 119,
         Ended::Usage => 120,

@@ -138,6 +138,7 @@ fn outcome_line(alloc: Global, outcome: Outcome) -> Result<String, AllocError>
         Outcome::HartsFull => String::from_str(alloc, "ocolos: harts full\n"),
         Outcome::Stalled => String::from_str(alloc, "ocolos: stalled\n"),
         Outcome::Unfinished => String::from_str(alloc, "ocolos: unfinished\n"),
+        Outcome::Limit { most } => format!(in alloc; "ocolos: limit {most}\n"),
     }
 }
 

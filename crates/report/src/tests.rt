@@ -44,6 +44,8 @@ fn a_run_tells_how_it_ended(rt: HostRuntime) -> Result<(), Fail> {
     check(&rt, Ended::Ran(landing), 114, "landing at 0x10010")?;
     check(&rt, Ended::Ran(Outcome::Unfinished), 115, "unfinished")?;
     check(&rt, Ended::Ran(Outcome::Stalled), 116, "stalled")?;
+    let limit = Outcome::Limit { most: 1000 };
+    check(&rt, Ended::Ran(limit), 117, "limit 1000")?;
     let trap = Outcome::Trap {
         cause: 5,
         pc: 0x1_0004,
