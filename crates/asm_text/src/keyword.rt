@@ -1,6 +1,7 @@
 //! The names of statements.
 
-ghost use Rattle.std.specs.Prelude.{◌≡◌, IfSome, Some};
+ghost use Rattle.std.specs.Prelude.{◌≡◌, IfSome, Some, if◌then◌else◌};
+ghost use Rattle.std.specs.Str.{bytes_eq};
 ghost use Rattle.asm_text.specs.Keywords.{lookup, alu_names, mul_names, alu_32_names, imm_names, shift_names, branch_names, load_names, store_names, atomic_w_names, atomic_d_names, other_names, directive_names, keyword_of, section_of, IsGiven};
 ghost use Rattle.rv_isa.specs.Instr.{IsStoreWidth};
 ghost use Rattle.asm_text.specs.declared.keyword.Keyword.TheVariants.{Amo};
@@ -52,400 +53,215 @@ pub enum Keyword {
     Slot,
 }
 
+/// What a table says whose first row is this one: `value` where the name is `word`, or else what the rest says.
+fn row<T: Copy>(name: &[u8], word: &[u8], value: T, rest: Option<T>) -> Option<T>
+    ensures { result ≡ (if bytes_eq name.now word.now then Some value else rest) }
+{
+    if name == word { Some(value) } else { rest }
+}
+
 fn alu_named(name: &[u8]) -> Option<AluOp>
     ensures { result ≡ lookup alu_names name.now }
 {
-    if name == b"add".as_slice() {
-        return Some(AluOp::Add);
-    }
-    if name == b"sub".as_slice() {
-        return Some(AluOp::Sub);
-    }
-    if name == b"sll".as_slice() {
-        return Some(AluOp::Sll);
-    }
-    if name == b"slt".as_slice() {
-        return Some(AluOp::Slt);
-    }
-    if name == b"sltu".as_slice() {
-        return Some(AluOp::Sltu);
-    }
-    if name == b"xor".as_slice() {
-        return Some(AluOp::Xor);
-    }
-    if name == b"srl".as_slice() {
-        return Some(AluOp::Srl);
-    }
-    if name == b"sra".as_slice() {
-        return Some(AluOp::Sra);
-    }
-    if name == b"or".as_slice() {
-        return Some(AluOp::Or);
-    }
-    if name == b"and".as_slice() {
-        return Some(AluOp::And);
-    }
-    None
+    let rest = row(name, b"and", AluOp::And, None);
+    let rest = row(name, b"or", AluOp::Or, rest);
+    let rest = row(name, b"sra", AluOp::Sra, rest);
+    let rest = row(name, b"srl", AluOp::Srl, rest);
+    let rest = row(name, b"xor", AluOp::Xor, rest);
+    let rest = row(name, b"sltu", AluOp::Sltu, rest);
+    let rest = row(name, b"slt", AluOp::Slt, rest);
+    let rest = row(name, b"sll", AluOp::Sll, rest);
+    let rest = row(name, b"sub", AluOp::Sub, rest);
+    row(name, b"add", AluOp::Add, rest)
 }
 
 fn mul_named(name: &[u8]) -> Option<AluOp>
     ensures { result ≡ lookup mul_names name.now }
 {
-    if name == b"mul".as_slice() {
-        return Some(AluOp::Mul);
-    }
-    if name == b"mulh".as_slice() {
-        return Some(AluOp::Mulh);
-    }
-    if name == b"mulhsu".as_slice() {
-        return Some(AluOp::Mulhsu);
-    }
-    if name == b"mulhu".as_slice() {
-        return Some(AluOp::Mulhu);
-    }
-    if name == b"div".as_slice() {
-        return Some(AluOp::Div);
-    }
-    if name == b"divu".as_slice() {
-        return Some(AluOp::Divu);
-    }
-    if name == b"rem".as_slice() {
-        return Some(AluOp::Rem);
-    }
-    if name == b"remu".as_slice() {
-        return Some(AluOp::Remu);
-    }
-    None
+    let rest = row(name, b"remu", AluOp::Remu, None);
+    let rest = row(name, b"rem", AluOp::Rem, rest);
+    let rest = row(name, b"divu", AluOp::Divu, rest);
+    let rest = row(name, b"div", AluOp::Div, rest);
+    let rest = row(name, b"mulhu", AluOp::Mulhu, rest);
+    let rest = row(name, b"mulhsu", AluOp::Mulhsu, rest);
+    let rest = row(name, b"mulh", AluOp::Mulh, rest);
+    row(name, b"mul", AluOp::Mul, rest)
 }
 
 fn alu_32_named(name: &[u8]) -> Option<AluOp>
     ensures { result ≡ lookup alu_32_names name.now }
 {
-    if name == b"addw".as_slice() {
-        return Some(AluOp::Addw);
-    }
-    if name == b"subw".as_slice() {
-        return Some(AluOp::Subw);
-    }
-    if name == b"sllw".as_slice() {
-        return Some(AluOp::Sllw);
-    }
-    if name == b"srlw".as_slice() {
-        return Some(AluOp::Srlw);
-    }
-    if name == b"sraw".as_slice() {
-        return Some(AluOp::Sraw);
-    }
-    if name == b"mulw".as_slice() {
-        return Some(AluOp::Mulw);
-    }
-    if name == b"divw".as_slice() {
-        return Some(AluOp::Divw);
-    }
-    if name == b"divuw".as_slice() {
-        return Some(AluOp::Divuw);
-    }
-    if name == b"remw".as_slice() {
-        return Some(AluOp::Remw);
-    }
-    if name == b"remuw".as_slice() {
-        return Some(AluOp::Remuw);
-    }
-    None
+    let rest = row(name, b"remuw", AluOp::Remuw, None);
+    let rest = row(name, b"remw", AluOp::Remw, rest);
+    let rest = row(name, b"divuw", AluOp::Divuw, rest);
+    let rest = row(name, b"divw", AluOp::Divw, rest);
+    let rest = row(name, b"mulw", AluOp::Mulw, rest);
+    let rest = row(name, b"sraw", AluOp::Sraw, rest);
+    let rest = row(name, b"srlw", AluOp::Srlw, rest);
+    let rest = row(name, b"sllw", AluOp::Sllw, rest);
+    let rest = row(name, b"subw", AluOp::Subw, rest);
+    row(name, b"addw", AluOp::Addw, rest)
 }
 
 fn imm_named(name: &[u8]) -> Option<ImmOp>
     ensures { result ≡ lookup imm_names name.now }
 {
-    if name == b"addi".as_slice() {
-        return Some(ImmOp::Addi);
-    }
-    if name == b"slti".as_slice() {
-        return Some(ImmOp::Slti);
-    }
-    if name == b"sltiu".as_slice() {
-        return Some(ImmOp::Sltiu);
-    }
-    if name == b"xori".as_slice() {
-        return Some(ImmOp::Xori);
-    }
-    if name == b"ori".as_slice() {
-        return Some(ImmOp::Ori);
-    }
-    if name == b"andi".as_slice() {
-        return Some(ImmOp::Andi);
-    }
-    if name == b"addiw".as_slice() {
-        return Some(ImmOp::Addiw);
-    }
-    None
+    let rest = row(name, b"addiw", ImmOp::Addiw, None);
+    let rest = row(name, b"andi", ImmOp::Andi, rest);
+    let rest = row(name, b"ori", ImmOp::Ori, rest);
+    let rest = row(name, b"xori", ImmOp::Xori, rest);
+    let rest = row(name, b"sltiu", ImmOp::Sltiu, rest);
+    let rest = row(name, b"slti", ImmOp::Slti, rest);
+    row(name, b"addi", ImmOp::Addi, rest)
 }
 
 fn shift_named(name: &[u8]) -> Option<ShiftOp>
     ensures { result ≡ lookup shift_names name.now }
 {
-    if name == b"slli".as_slice() {
-        return Some(ShiftOp::Slli);
-    }
-    if name == b"srli".as_slice() {
-        return Some(ShiftOp::Srli);
-    }
-    if name == b"srai".as_slice() {
-        return Some(ShiftOp::Srai);
-    }
-    if name == b"slliw".as_slice() {
-        return Some(ShiftOp::Slliw);
-    }
-    if name == b"srliw".as_slice() {
-        return Some(ShiftOp::Srliw);
-    }
-    if name == b"sraiw".as_slice() {
-        return Some(ShiftOp::Sraiw);
-    }
-    None
+    let rest = row(name, b"sraiw", ShiftOp::Sraiw, None);
+    let rest = row(name, b"srliw", ShiftOp::Srliw, rest);
+    let rest = row(name, b"slliw", ShiftOp::Slliw, rest);
+    let rest = row(name, b"srai", ShiftOp::Srai, rest);
+    let rest = row(name, b"srli", ShiftOp::Srli, rest);
+    row(name, b"slli", ShiftOp::Slli, rest)
 }
 
 fn branch_named(name: &[u8]) -> Option<Cond>
     ensures { result ≡ lookup branch_names name.now }
 {
-    if name == b"beq".as_slice() {
-        return Some(Cond::Eq);
-    }
-    if name == b"bne".as_slice() {
-        return Some(Cond::Ne);
-    }
-    if name == b"blt".as_slice() {
-        return Some(Cond::Lt);
-    }
-    if name == b"bge".as_slice() {
-        return Some(Cond::Ge);
-    }
-    if name == b"bltu".as_slice() {
-        return Some(Cond::Ltu);
-    }
-    if name == b"bgeu".as_slice() {
-        return Some(Cond::Geu);
-    }
-    None
+    let rest = row(name, b"bgeu", Cond::Geu, None);
+    let rest = row(name, b"bltu", Cond::Ltu, rest);
+    let rest = row(name, b"bge", Cond::Ge, rest);
+    let rest = row(name, b"blt", Cond::Lt, rest);
+    let rest = row(name, b"bne", Cond::Ne, rest);
+    row(name, b"beq", Cond::Eq, rest)
 }
 
 fn load_named(name: &[u8]) -> Option<Width>
     ensures { result ≡ lookup load_names name.now }
 {
-    if name == b"lb".as_slice() {
-        return Some(Width::B);
-    }
-    if name == b"lh".as_slice() {
-        return Some(Width::H);
-    }
-    if name == b"lw".as_slice() {
-        return Some(Width::W);
-    }
-    if name == b"ld".as_slice() {
-        return Some(Width::D);
-    }
-    if name == b"lbu".as_slice() {
-        return Some(Width::Bu);
-    }
-    if name == b"lhu".as_slice() {
-        return Some(Width::Hu);
-    }
-    if name == b"lwu".as_slice() {
-        return Some(Width::Wu);
-    }
-    None
+    let rest = row(name, b"lwu", Width::Wu, None);
+    let rest = row(name, b"lhu", Width::Hu, rest);
+    let rest = row(name, b"lbu", Width::Bu, rest);
+    let rest = row(name, b"ld", Width::D, rest);
+    let rest = row(name, b"lw", Width::W, rest);
+    let rest = row(name, b"lh", Width::H, rest);
+    row(name, b"lb", Width::B, rest)
+}
+
+/// A row of the table of stores.
+fn store_row(name: &[u8], word: &[u8], width: Width, rest: Option<Width>) -> Option<Width>
+    requires width { IsStoreWidth width }
+    requires rest { IfSome rest IsStoreWidth }
+    ensures row { result ≡ (if bytes_eq name.now word.now then Some width else rest) }
+    ensures width { IfSome result IsStoreWidth }
+{
+    if name == word { Some(width) } else { rest }
 }
 
 fn store_named(name: &[u8]) -> Option<Width>
     ensures table { result ≡ lookup store_names name.now }
     ensures width { IfSome result IsStoreWidth }
 {
-    if name == b"sb".as_slice() {
-        return Some(Width::B);
-    }
-    if name == b"sh".as_slice() {
-        return Some(Width::H);
-    }
-    if name == b"sw".as_slice() {
-        return Some(Width::W);
-    }
-    if name == b"sd".as_slice() {
-        return Some(Width::D);
-    }
-    None
+    let rest = store_row(name, b"sd", Width::D, None);
+    let rest = store_row(name, b"sw", Width::W, rest);
+    let rest = store_row(name, b"sh", Width::H, rest);
+    store_row(name, b"sb", Width::B, rest)
 }
 
-/// An operation in both widths.
-fn amo(op: AmoOp, wide: bool) -> Option<Keyword>
-    ensures { result ≡ Some (Amo op wide) }
+/// A row of a table of keywords.
+fn keyword_row(name: &[u8], word: &[u8], keyword: Keyword, rest: Option<Keyword>) -> Option<Keyword>
+    requires keyword { IsGiven keyword }
+    requires rest { IfSome rest IsGiven }
+    ensures row { result ≡ (if bytes_eq name.now word.now then Some keyword else rest) }
+    ensures given { IfSome result IsGiven }
 {
-    Some(Keyword::Amo { op, wide })
+    if name == word { Some(keyword) } else { rest }
+}
+
+/// The row of an atomic operation.
+fn amo_row(
+    name: &[u8],
+    word: &[u8],
+    op: AmoOp,
+    wide: bool,
+    rest: Option<Keyword>,
+) -> Option<Keyword>
+    requires { IfSome rest IsGiven }
+    ensures row { result ≡ (if bytes_eq name.now word.now then Some (Amo op wide) else rest) }
+    ensures given { IfSome result IsGiven }
+{
+    keyword_row(name, word, Keyword::Amo { op, wide }, rest)
 }
 
 fn atomic_w_named(name: &[u8]) -> Option<Keyword>
     ensures table { result ≡ lookup atomic_w_names name.now }
     ensures given { IfSome result IsGiven }
 {
-    if name == b"lr.w".as_slice() {
-        return Some(Keyword::Lr { wide: false });
-    }
-    if name == b"sc.w".as_slice() {
-        return Some(Keyword::Sc { wide: false });
-    }
-    if name == b"amoswap.w".as_slice() {
-        return amo(AmoOp::Swap, false);
-    }
-    if name == b"amoadd.w".as_slice() {
-        return amo(AmoOp::Add, false);
-    }
-    if name == b"amoxor.w".as_slice() {
-        return amo(AmoOp::Xor, false);
-    }
-    if name == b"amoand.w".as_slice() {
-        return amo(AmoOp::And, false);
-    }
-    if name == b"amoor.w".as_slice() {
-        return amo(AmoOp::Or, false);
-    }
-    if name == b"amomin.w".as_slice() {
-        return amo(AmoOp::Min, false);
-    }
-    if name == b"amomax.w".as_slice() {
-        return amo(AmoOp::Max, false);
-    }
-    if name == b"amominu.w".as_slice() {
-        return amo(AmoOp::Minu, false);
-    }
-    if name == b"amomaxu.w".as_slice() {
-        return amo(AmoOp::Maxu, false);
-    }
-    None
+    let rest = amo_row(name, b"amomaxu.w", AmoOp::Maxu, false, None);
+    let rest = amo_row(name, b"amominu.w", AmoOp::Minu, false, rest);
+    let rest = amo_row(name, b"amomax.w", AmoOp::Max, false, rest);
+    let rest = amo_row(name, b"amomin.w", AmoOp::Min, false, rest);
+    let rest = amo_row(name, b"amoor.w", AmoOp::Or, false, rest);
+    let rest = amo_row(name, b"amoand.w", AmoOp::And, false, rest);
+    let rest = amo_row(name, b"amoxor.w", AmoOp::Xor, false, rest);
+    let rest = amo_row(name, b"amoadd.w", AmoOp::Add, false, rest);
+    let rest = amo_row(name, b"amoswap.w", AmoOp::Swap, false, rest);
+    let rest = keyword_row(name, b"sc.w", Keyword::Sc { wide: false }, rest);
+    keyword_row(name, b"lr.w", Keyword::Lr { wide: false }, rest)
 }
 
 fn atomic_d_named(name: &[u8]) -> Option<Keyword>
     ensures table { result ≡ lookup atomic_d_names name.now }
     ensures given { IfSome result IsGiven }
 {
-    if name == b"lr.d".as_slice() {
-        return Some(Keyword::Lr { wide: true });
-    }
-    if name == b"sc.d".as_slice() {
-        return Some(Keyword::Sc { wide: true });
-    }
-    if name == b"amoswap.d".as_slice() {
-        return amo(AmoOp::Swap, true);
-    }
-    if name == b"amoadd.d".as_slice() {
-        return amo(AmoOp::Add, true);
-    }
-    if name == b"amoxor.d".as_slice() {
-        return amo(AmoOp::Xor, true);
-    }
-    if name == b"amoand.d".as_slice() {
-        return amo(AmoOp::And, true);
-    }
-    if name == b"amoor.d".as_slice() {
-        return amo(AmoOp::Or, true);
-    }
-    if name == b"amomin.d".as_slice() {
-        return amo(AmoOp::Min, true);
-    }
-    if name == b"amomax.d".as_slice() {
-        return amo(AmoOp::Max, true);
-    }
-    if name == b"amominu.d".as_slice() {
-        return amo(AmoOp::Minu, true);
-    }
-    if name == b"amomaxu.d".as_slice() {
-        return amo(AmoOp::Maxu, true);
-    }
-    None
+    let rest = amo_row(name, b"amomaxu.d", AmoOp::Maxu, true, None);
+    let rest = amo_row(name, b"amominu.d", AmoOp::Minu, true, rest);
+    let rest = amo_row(name, b"amomax.d", AmoOp::Max, true, rest);
+    let rest = amo_row(name, b"amomin.d", AmoOp::Min, true, rest);
+    let rest = amo_row(name, b"amoor.d", AmoOp::Or, true, rest);
+    let rest = amo_row(name, b"amoand.d", AmoOp::And, true, rest);
+    let rest = amo_row(name, b"amoxor.d", AmoOp::Xor, true, rest);
+    let rest = amo_row(name, b"amoadd.d", AmoOp::Add, true, rest);
+    let rest = amo_row(name, b"amoswap.d", AmoOp::Swap, true, rest);
+    let rest = keyword_row(name, b"sc.d", Keyword::Sc { wide: true }, rest);
+    keyword_row(name, b"lr.d", Keyword::Lr { wide: true }, rest)
 }
 
 fn other_named(name: &[u8]) -> Option<Keyword>
     ensures table { result ≡ lookup other_names name.now }
     ensures given { IfSome result IsGiven }
 {
-    if name == b"lui".as_slice() {
-        return Some(Keyword::Lui);
-    }
-    if name == b"auipc".as_slice() {
-        return Some(Keyword::Auipc);
-    }
-    if name == b"jal".as_slice() {
-        return Some(Keyword::Jal);
-    }
-    if name == b"jalr".as_slice() {
-        return Some(Keyword::Jalr);
-    }
-    if name == b"call".as_slice() {
-        return Some(Keyword::Call);
-    }
-    if name == b"fence".as_slice() {
-        return Some(Keyword::Fence);
-    }
-    if name == b"ecall".as_slice() {
-        return Some(Keyword::Ecall);
-    }
-    if name == b"ebreak".as_slice() {
-        return Some(Keyword::Ebreak);
-    }
-    if name == b"nop".as_slice() {
-        return Some(Keyword::Nop);
-    }
-    if name == b"ret".as_slice() {
-        return Some(Keyword::Ret);
-    }
-    None
+    let rest = keyword_row(name, b"ret", Keyword::Ret, None);
+    let rest = keyword_row(name, b"nop", Keyword::Nop, rest);
+    let rest = keyword_row(name, b"ebreak", Keyword::Ebreak, rest);
+    let rest = keyword_row(name, b"ecall", Keyword::Ecall, rest);
+    let rest = keyword_row(name, b"fence", Keyword::Fence, rest);
+    let rest = keyword_row(name, b"call", Keyword::Call, rest);
+    let rest = keyword_row(name, b"jalr", Keyword::Jalr, rest);
+    let rest = keyword_row(name, b"jal", Keyword::Jal, rest);
+    let rest = keyword_row(name, b"auipc", Keyword::Auipc, rest);
+    keyword_row(name, b"lui", Keyword::Lui, rest)
 }
 
 fn directive_named(name: &[u8]) -> Option<Keyword>
     ensures table { result ≡ lookup directive_names name.now }
     ensures given { IfSome result IsGiven }
 {
-    if name == b".text".as_slice() {
-        return Some(Keyword::ToText);
-    }
-    if name == b".data".as_slice() {
-        return Some(Keyword::ToData);
-    }
-    if name == b".func".as_slice() {
-        return Some(Keyword::Func);
-    }
-    if name == b".end".as_slice() {
-        return Some(Keyword::End);
-    }
-    if name == b".entry".as_slice() {
-        return Some(Keyword::Entry);
-    }
-    if name == b".word".as_slice() {
-        return Some(Keyword::Word);
-    }
-    if name == b".nops".as_slice() {
-        return Some(Keyword::Nops);
-    }
-    if name == b".byte".as_slice() {
-        return Some(Keyword::Byte);
-    }
-    if name == b".dword".as_slice() {
-        return Some(Keyword::Dword);
-    }
-    if name == b".space".as_slice() {
-        return Some(Keyword::Space);
-    }
-    if name == b".ascii".as_slice() {
-        return Some(Keyword::Ascii);
-    }
-    if name == b".object".as_slice() {
-        return Some(Keyword::Object);
-    }
-    if name == b".endobject".as_slice() {
-        return Some(Keyword::EndObject);
-    }
-    if name == b".slot".as_slice() {
-        return Some(Keyword::Slot);
-    }
-    None
+    let rest = keyword_row(name, b".slot", Keyword::Slot, None);
+    let rest = keyword_row(name, b".endobject", Keyword::EndObject, rest);
+    let rest = keyword_row(name, b".object", Keyword::Object, rest);
+    let rest = keyword_row(name, b".ascii", Keyword::Ascii, rest);
+    let rest = keyword_row(name, b".space", Keyword::Space, rest);
+    let rest = keyword_row(name, b".dword", Keyword::Dword, rest);
+    let rest = keyword_row(name, b".byte", Keyword::Byte, rest);
+    let rest = keyword_row(name, b".nops", Keyword::Nops, rest);
+    let rest = keyword_row(name, b".word", Keyword::Word, rest);
+    let rest = keyword_row(name, b".entry", Keyword::Entry, rest);
+    let rest = keyword_row(name, b".end", Keyword::End, rest);
+    let rest = keyword_row(name, b".func", Keyword::Func, rest);
+    let rest = keyword_row(name, b".data", Keyword::ToData, rest);
+    keyword_row(name, b".text", Keyword::ToText, rest)
 }
 
 #[tactic(auto, unfolding(crate::specs::Keywords::keyword_of))]
