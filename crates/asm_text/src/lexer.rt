@@ -140,8 +140,8 @@ pub fn tokens_of(alloc: Global, line: &[u8]) -> Result<Vec<Token>, NoMemory>
         mode: Mode::Plain,
         word: Vec::new(alloc),
     };
-    for i in 0..line.len() {
-        lexer.step(alloc, line[i])?;
+    for c in line {
+        lexer.step(alloc, *c)?;
     }
     lexer.finish(alloc)
 }

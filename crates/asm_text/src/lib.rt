@@ -11,4 +11,6 @@ pub mod number;
 pub mod operand;
 pub mod read;
 pub mod statement;
+#[cfg(test)]
+mod tests;
 pub mod token;

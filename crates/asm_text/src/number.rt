@@ -79,33 +79,3 @@ pub fn number_of(word: &[u8]) -> Option<i128>
     };
     Some(n as i128)
 }
-
-#[cfg(test)]
-mod tests {
-    use super::*;
-
-    #[test]
-    fn numbers_are_decimal_negative_or_hexadecimal(rt: HostRuntime) {
-        let cases: [(&[u8], Option<i128>); 16] = [
-            (b"0", Some(0)),
-            (b"007", Some(7)),
-            (b"-0", Some(0)),
-            (b"-2048", Some(-2048)),
-            (b"0x1f", Some(31)),
-            (b"0xAb", Some(171)),
-            (b"18446744073709551615", Some(18446744073709551615)),
-            (b"99999999999999999999999999", Some(36893488147419103232)),
-            (b"-99999999999999999999999999", Some(-36893488147419103232)),
-            (b"", None),
-            (b"-", None),
-            (b"0x", None),
-            (b"0X10", None),
-            (b"-0x10", None),
-            (b"0xg", None),
-            (b"1a", None),
-        ];
-        for (word, number) in cases {
-            assert_eq!(rt; number_of(word), number);
-        }
-    }
-}
