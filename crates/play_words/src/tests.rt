@@ -203,7 +203,7 @@ fn answer(alloc: Global, words: &[String]) -> Result<String, AllocError> {
 fn check(alloc: Global, row: &str, wanted: &str) -> Result<(), Fail> {
     let words = split(alloc, row)?;
     let said = answer(alloc, &words)?;
-    if said == wanted {
+    if said.as_str() == wanted {
         return Ok(());
     }
     Err(Fail::new(format!(in alloc; "{said} is said by: {row}")?))
