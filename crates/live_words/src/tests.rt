@@ -1,11 +1,10 @@
 //! Words and what they say, as `clap` documents its reading and as the ranges stand.
 
 use crate::words::{Words, read_words};
+use command_words::fault::WordsFault;
 use oc_base::range::Range;
 use oc_base::text::Text;
-use play_words::words::WordsFault;
-use std::alloc::Global;
-use std::process::Abort;
+use std::alloc::{AllocError, Global};
 use std::test::Fail;
 
 // Words with one blank between each two, and behind the bar what they say: the program, the numbers of workers, `every` and
@@ -143,10 +142,10 @@ fn name(text: &Text) -> &str {
     if text.is_empty() { "''" } else { text }
 }
 
-fn region_text(alloc: Global, region: Option<Range>) -> Result<String, Fail> {
+fn add_region(text: &mut String, region: Option<Range>) -> Result<(), AllocError> {
     match region {
-        Some(Range { from, to }) => Ok(format!(in alloc; "{from}..{to}")?),
-        None => Ok(String::from_str(alloc, "none")?),
+        Some(Range { from, to }) => write!(text, "{from}..{to}"),
+        None => text.push_str("none"),
     }
 }
 
@@ -157,49 +156,49 @@ fn log_text(words: &Words) -> &str {
     }
 }
 
-fn numbers_text(alloc: Global, words: &Words) -> Result<String, Fail> {
-    let (workers, every, limit) = (words.workers, words.every, words.limit);
-    Ok(format!(in alloc; "{workers} {every} {limit}")?)
-}
-
-fn said(alloc: Global, words: &Words) -> Result<String, Fail> {
+fn add_numbers(text: &mut String, words: &Words) -> Result<(), AllocError> {
     let program = name(&words.program);
-    let numbers = numbers_text(alloc, words)?;
-    let region = region_text(alloc, words.region)?;
-    let ring = words.ring;
-    let log = log_text(words);
-    let report = if words.report { "report" } else { "quiet" };
-    Ok(format!(in alloc; "{program} {numbers} {region} {ring} {log} {report}")?)
+    let (workers, every, limit) = (words.workers, words.every, words.limit);
+    write!(text, "{program} {workers} {every} {limit} ")
 }
 
-fn check(rt: &(impl Abort + AllocGlobal), row: &str) -> Result<(), Fail> {
-    let alloc = rt.alloc();
-    let (words, wanted) = row.split_once('|').ok_or("a row without a bar")?;
-    let words = split(alloc, words)?;
-    match read_words(alloc, &words) {
-        Ok(words) => {
-            let said = said(alloc, &words)?;
-            assert_eq!(rt; said.as_str(), wanted, "{row}");
-        }
-        Err(_) => assert!(rt; false, "{row}"),
+fn add_words(text: &mut String, words: &Words) -> Result<(), AllocError> {
+    add_numbers(text, words)?;
+    add_region(text, words.region)?;
+    let (ring, log) = (words.ring, log_text(words));
+    let report = if words.report { "report" } else { "quiet" };
+    write!(text, " {ring} {log} {report}")
+}
+
+fn said(alloc: Global, words: &Words) -> Result<String, AllocError> {
+    let mut text = String::new(alloc);
+    add_words(&mut text, words)?;
+    Ok(text)
+}
+
+fn answer(alloc: Global, words: &[String]) -> Result<String, AllocError> {
+    match read_words(alloc, words) {
+        Ok(words) => said(alloc, &words),
+        Err(WordsFault::Usage) => String::from_str(alloc, "usage"),
+        Err(WordsFault::NoMemory) => String::from_str(alloc, "out of memory"),
     }
-    Ok(())
+}
+
+// Fails where the words of a row say something else than is wanted.
+fn check(alloc: Global, row: &str, wanted: &str) -> Result<(), Fail> {
+    let words = split(alloc, row)?;
+    let said = answer(alloc, &words)?;
+    if said.as_str() == wanted {
+        return Ok(());
+    }
+    Err(Fail::new(format!(in alloc; "{said} is said by: {row}")?))
 }
 
 #[test]
 fn words_name_a_program_and_what_else_is_asked(rt: HostRuntime) -> Result<(), Fail> {
     for row in READ.lines() {
-        check(&rt, row)?;
-    }
-    Ok(())
-}
-
-fn refuse(rt: &(impl Abort + AllocGlobal), row: &str) -> Result<(), Fail> {
-    let alloc = rt.alloc();
-    let words = split(alloc, row)?;
-    match read_words(alloc, &words) {
-        Ok(_) => assert!(rt; false, "{row}"),
-        Err(fault) => assert_eq!(rt; fault, WordsFault::Usage, "{row}"),
+        let (words, wanted) = row.split_once('|').unwrap_or((row, ""));
+        check(rt.alloc(), words, wanted)?;
     }
     Ok(())
 }
@@ -207,7 +206,7 @@ fn refuse(rt: &(impl Abort + AllocGlobal), row: &str) -> Result<(), Fail> {
 #[test]
 fn other_words_are_refused(rt: HostRuntime) -> Result<(), Fail> {
     for row in REFUSED.lines() {
-        refuse(&rt, row)?;
+        check(rt.alloc(), row, "usage")?;
     }
     Ok(())
 }

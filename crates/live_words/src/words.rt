@@ -1,20 +1,21 @@
 //! What the words say.
 
-ghost use Rattle.std.specs.Prelude.{◌≡◌, ◌≢◌, ◌≤◌, Some, None, IfOk, IfErr, map, string_bytes, option_map};
+ghost use Rattle.std.specs.Prelude.{◌≡◌, ◌≢◌, Some, None, IfOk, IfErr, map, string_bytes, option_map};
 ghost use Rattle.std.specs.Option.{IfSome};
 ghost use Rattle.image.specs.Picture.{IsPaged};
 ghost use Rattle.clap.specs.Words.{first_value, found_of};
-ghost use Rattle.play_words.specs.declared.words.WordsFault.{WordsFault};
-ghost use Rattle.live_words.specs.Words.{number_in, words_by, words_of, AreInRange};
+ghost use Rattle.command_words.specs.declared.fault.WordsFault.{WordsFault};
+ghost use Rattle.live_words.specs.Words.{words_by, words_of, AreInRange};
 
-use crate::command::matches;
+use crate::command::command;
 use crate::{MOST_STEPS, MOST_WORKERS, USUAL_EVERY, USUAL_LIMIT, USUAL_WORKERS};
 use clap::ArgMatches;
+use command_words::command::matches;
+use command_words::fault::WordsFault;
+use command_words::value::{is_used, number_in, region_in, ring_in};
 use oc_base::fault::NoMemory;
 use oc_base::range::Range;
 use oc_base::text::Text;
-use play_words::words::{WordsFault, is_used, number_within, region_in};
-use play_words::{LARGEST_RING, USUAL_RING};
 use std::alloc::Global;
 
 /// What the words of `ocolos` say.
@@ -36,18 +37,6 @@ pub struct Words {
     pub log_name: Option<Text>,
     /// Whether the report is written.
     pub report: bool,
-}
-
-// The number of the option's value, or the usual one.
-fn number_in(value: Option<&str>, least: u32, most: u32, usual: u32) -> Option<u32>
-    requires { (least ≤ usual) × (usual ≤ most) }
-    ensures value { result ≡ number_in least most usual (option_map (λ v. v.now) value.entry) }
-    ensures range { IfSome result (λ n. (least ≤ n) × (n ≤ most)) }
-{
-    match value {
-        Some(text) => number_within(text, least, most),
-        None => Some(usual),
-    }
 }
 
 // A copy of the option's value.
@@ -83,7 +72,7 @@ fn words_by(alloc: Global, matches: &ArgMatches<'_>) -> Result<Words, WordsFault
     let Some(region) = region_in(matches.get_str("region")) else {
         return Err(WordsFault::Usage);
     };
-    let Some(ring) = number_in(matches.get_str("ring"), 1, LARGEST_RING, USUAL_RING) else {
+    let Some(ring) = ring_in(matches.get_str("ring")) else {
         return Err(WordsFault::Usage);
     };
     let Ok(program) = Text::copy_of(alloc, program) else {
@@ -112,6 +101,9 @@ pub fn read_words(alloc: Global, words: &[String]) -> Result<Words, WordsFault>
     ensures ranges { IfOk result AreInRange }
     ensures err { IfErr result (λ e. e ≢ WordsFault.NoMemory → words_of (map string_bytes words.now) ≡ None) }
 {
-    let matches = matches(alloc, words)?;
+    let Ok(command) = command(alloc) else {
+        return Err(WordsFault::NoMemory);
+    };
+    let matches = matches(command, words)?;
     words_by(alloc, &matches)
 }

@@ -2,8 +2,7 @@
 
 use crate::words::{Guest, Words, WordsFault, read_words};
 use oc_base::range::Range;
-use std::alloc::Global;
-use std::process::Abort;
+use std::alloc::{AllocError, Global};
 use std::test::Fail;
 
 // Words with one blank between each two, and behind the bar what they say: the program and the script, or `generated` and the
@@ -160,59 +159,61 @@ fn name(text: &str) -> &str {
     if text.is_empty() { "''" } else { text }
 }
 
-fn guest_text(alloc: Global, guest: &Guest) -> Result<String, Fail> {
+fn add_guest(text: &mut String, guest: &Guest) -> Result<(), AllocError> {
     match guest {
         Guest::Files { program, script } => {
             let (program, script) = (name(program.as_str()), name(script.as_str()));
-            Ok(format!(in alloc; "{program} {script}")?)
+            write!(text, "{program} {script}")
         }
-        Guest::Generated { count } => Ok(format!(in alloc; "generated {count}")?),
+        Guest::Generated { count } => write!(text, "generated {count}"),
     }
 }
 
-fn region_text(alloc: Global, region: Option<Range>) -> Result<String, Fail> {
+fn add_region(text: &mut String, region: Option<Range>) -> Result<(), AllocError> {
     match region {
-        Some(Range { from, to }) => Ok(format!(in alloc; "{from}..{to}")?),
-        None => Ok(String::from_str(alloc, "none")?),
+        Some(Range { from, to }) => write!(text, "{from}..{to}"),
+        None => text.push_str("none"),
     }
 }
 
-fn said(alloc: Global, words: &Words) -> Result<String, Fail> {
-    let guest = guest_text(alloc, &words.guest)?;
-    let region = region_text(alloc, words.region)?;
+fn add_words(text: &mut String, words: &Words) -> Result<(), AllocError> {
+    add_guest(text, &words.guest)?;
+    text.push(' ')?;
+    add_region(text, words.region)?;
     let ring = words.ring;
     let report = if words.report { "report" } else { "quiet" };
-    Ok(format!(in alloc; "{guest} {region} {ring} {report}")?)
+    write!(text, " {ring} {report}")
 }
 
-fn check(rt: &(impl Abort + AllocGlobal), row: &str) -> Result<(), Fail> {
-    let alloc = rt.alloc();
-    let (words, wanted) = row.split_once('|').ok_or("a row without a bar")?;
-    let words = split(alloc, words)?;
-    match read_words(alloc, &words) {
-        Ok(words) => {
-            let said = said(alloc, &words)?;
-            assert_eq!(rt; said.as_str(), wanted, "{row}");
-        }
-        Err(_) => assert!(rt; false, "{row}"),
+fn said(alloc: Global, words: &Words) -> Result<String, AllocError> {
+    let mut text = String::new(alloc);
+    add_words(&mut text, words)?;
+    Ok(text)
+}
+
+fn answer(alloc: Global, words: &[String]) -> Result<String, AllocError> {
+    match read_words(alloc, words) {
+        Ok(words) => said(alloc, &words),
+        Err(WordsFault::Usage) => String::from_str(alloc, "usage"),
+        Err(WordsFault::NoMemory) => String::from_str(alloc, "out of memory"),
     }
-    Ok(())
+}
+
+// Fails where the words of a row say something else than is wanted.
+fn check(alloc: Global, row: &str, wanted: &str) -> Result<(), Fail> {
+    let words = split(alloc, row)?;
+    let said = answer(alloc, &words)?;
+    if said.as_str() == wanted {
+        return Ok(());
+    }
+    Err(Fail::new(format!(in alloc; "{said} is said by: {row}")?))
 }
 
 #[test]
 fn words_name_two_files_or_a_guest_and_what_else_is_asked(rt: HostRuntime) -> Result<(), Fail> {
     for row in READ.lines() {
-        check(&rt, row)?;
-    }
-    Ok(())
-}
-
-fn refuse(rt: &(impl Abort + AllocGlobal), row: &str) -> Result<(), Fail> {
-    let alloc = rt.alloc();
-    let words = split(alloc, row)?;
-    match read_words(alloc, &words) {
-        Ok(_) => assert!(rt; false, "{row}"),
-        Err(fault) => assert_eq!(rt; fault, WordsFault::Usage, "{row}"),
+        let (words, wanted) = row.split_once('|').unwrap_or((row, ""));
+        check(rt.alloc(), words, wanted)?;
     }
     Ok(())
 }
@@ -220,7 +221,7 @@ fn refuse(rt: &(impl Abort + AllocGlobal), row: &str) -> Result<(), Fail> {
 #[test]
 fn other_words_are_refused(rt: HostRuntime) -> Result<(), Fail> {
     for row in REFUSED.lines() {
-        refuse(&rt, row)?;
+        check(rt.alloc(), row, "usage")?;
     }
     Ok(())
 }

@@ -1,21 +1,21 @@
 //! What the words say.
 
-ghost use Rattle.std.specs.Prelude.{◌≡◌, ◌≢◌, ◌≤◌, Some, None, IfOk, IfErr, map, string_bytes, option_map};
+ghost use Rattle.std.specs.Prelude.{◌≡◌, ◌≢◌, Some, None, IfOk, IfErr, map, string_bytes, option_map};
 ghost use Rattle.std.specs.Option.{IfSome};
 ghost use Rattle.image.specs.Picture.{IsPaged};
 ghost use Rattle.clap.specs.Words.{first_value, found_of};
-ghost use Rattle.play_words.specs.Words.{is_used, region_in, ring_in, number_within, guest_by, IsCounted, words_by, words_of};
-ghost use Rattle.play_words.specs.declared.words.WordsFault.{WordsFault};
+ghost use Rattle.command_words.specs.declared.fault.WordsFault.{WordsFault};
+ghost use Rattle.play_words.specs.Words.{guest_by, IsCounted, words_by, words_of};
 
-use crate::command::matches;
-use crate::number::number_of;
-use crate::region::region_of;
-use crate::{LARGEST_COUNT, LARGEST_RING, USUAL_RING};
+use crate::LARGEST_COUNT;
+use crate::command::command;
 use clap::ArgMatches;
+use command_words::command::matches;
+pub use command_words::fault::WordsFault;
+use command_words::value::{is_used, number_within, region_in, ring_in};
 use oc_base::range::Range;
 use oc_base::text::Text;
 use std::alloc::Global;
-use thiserror::Error;
 
 /// What is run.
 #[derive(Debug, Drop)]
@@ -36,55 +36,6 @@ pub struct Words {
     pub ring: u32,
     /// Whether the report is written.
     pub report: bool,
-}
-
-/// Why words say nothing.
-#[derive(Clone, Copy, Debug, PartialEq, Eq, Error)]
-pub enum WordsFault {
-    /// The words don't have the form that the program asks for.
-    #[error("usage")]
-    Usage,
-    #[error("out of memory")]
-    NoMemory,
-}
-
-/// The region of the option's value. Without the option there is none.
-pub fn region_in(value: Option<&str>) -> Option<Option<Range>>
-    ensures value { result ≡ region_in (option_map (λ v. v.now) value.entry) }
-    ensures pages { IfSome result (λ region. IfSome region IsPaged) }
-{
-    let Some(text) = value else {
-        return Some(None);
-    };
-    let Some(region) = region_of(text) else {
-        return None;
-    };
-    Some(Some(region))
-}
-
-/// The number that a text writes, if it is from `least` to `most`.
-#[tactic(auto, unfolding(crate::specs::Words::number_within))]
-pub fn number_within(text: &str, least: u32, most: u32) -> Option<u32>
-    ensures value { result ≡ number_within least most text.now }
-    ensures range { IfSome result (λ n. (least ≤ n) × (n ≤ most)) }
-{
-    let Some(number) = number_of(text.as_bytes()) else {
-        return None;
-    };
-    if number < least as u64 || number > most as u64 {
-        return None;
-    }
-    Some(number as u32)
-}
-
-// The ring of the option's value, or the usual one.
-fn ring_in(value: Option<&str>) -> Option<u32>
-    ensures value { result ≡ ring_in (option_map (λ v. v.now) value.entry) }
-{
-    match value {
-        Some(text) => number_within(text, 1, LARGEST_RING),
-        None => Some(USUAL_RING),
-    }
 }
 
 // Two names of files, or the number of a generated guest.
@@ -113,16 +64,6 @@ fn guest_by(
             None => Err(WordsFault::Usage),
         },
         _ => Err(WordsFault::Usage),
-    }
-}
-
-/// Whether a flag was used. Its value is `true` or `false`.
-pub fn is_used(value: Option<&str>) -> bool
-    ensures { result ≡ is_used (option_map (λ v. v.now) value.entry) }
-{
-    match value {
-        Some(text) => text == "true",
-        None => false,
     }
 }
 
@@ -160,6 +101,9 @@ pub fn read_words(alloc: Global, words: &[String]) -> Result<Words, WordsFault>
     ensures counted { IfOk result (λ said. IsCounted said.guest) }
     ensures err { IfErr result (λ e. e ≢ WordsFault.NoMemory → words_of (map string_bytes words.now) ≡ None) }
 {
-    let matches = matches(alloc, words)?;
+    let Ok(command) = command(alloc) else {
+        return Err(WordsFault::NoMemory);
+    };
+    let matches = matches(command, words)?;
     words_by(alloc, &matches)
 }

@@ -1,7 +1,7 @@
 use Rattle.std.proofs.Common.{ap, codes, ◌∙◌}
 use Rattle.std.proofs.lemmas.Result.{IfOk-weaker}
 use Rattle.clap.specs.Words.{App, with_rule}
-use Rattle.play_words.specs.Words.{positional, option, flag}
+use Rattle.command_words.specs.Commands.{positional, option, flag}
 use Rattle.live_words.proofs.command.command.Goals as goal
 
 pub returns : goal.returns

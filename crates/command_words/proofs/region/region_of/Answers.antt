@@ -1,7 +1,7 @@
 use Rattle.std.proofs.Common.{rules, ◌∙◌, ap, ap₂, sym, Some, None}
-use Rattle.play_words.specs.Numbers.{number_of, region_from}
-use Rattle.play_words.proofs.Meaning.{parted, no_base, no_size}
-use Rattle.play_words.proofs.region.region_of.Goals as goal
+use Rattle.command_words.specs.Numbers.{number_of, region_from}
+use Rattle.command_words.proofs.Regions.{parted, no_base, no_size}
+use Rattle.command_words.proofs.region.region_of.Goals as goal
 
 pub returns-in_default-clause-value : goal.returns-in_default-clause-value
 returns-in_default-clause-value c = sym (parted c.args.text.now None c.in_default.ensures.cases)

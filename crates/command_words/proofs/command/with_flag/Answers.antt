@@ -1,7 +1,7 @@
 use Rattle.std.proofs.Common.{rules, ap, ◌≡◌, ◌∙◌}
 use Rattle.clap.specs.Words.{app_of, rule_of, with_rule}
-use Rattle.play_words.specs.Words.{flag}
-use Rattle.live_words.proofs.command.with_flag.Goals as goal
+use Rattle.command_words.specs.Commands.{flag}
+use Rattle.command_words.proofs.command.with_flag.Goals as goal
 
 pub returns : goal.returns
 returns c =

@@ -1,7 +1,7 @@
 //! Numbers of a command line.
 
 ghost use Rattle.std.specs.Prelude.{◌≡◌, ◌<◌, ◌^◌, IfSome};
-ghost use Rattle.play_words.specs.Numbers.{decimal_of, hex_of, number_of};
+ghost use Rattle.command_words.specs.Numbers.{decimal_of, hex_of, number_of};
 
 use texts::{all_digits, all_hex_digits, hex_value_of, value_of};
 

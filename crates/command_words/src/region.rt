@@ -2,7 +2,7 @@
 
 ghost use Rattle.std.specs.Prelude.{◌≡◌, ◌<◌, ◌^◌, Some, IfSome};
 ghost use Rattle.image.specs.Picture.{IsPaged};
-ghost use Rattle.play_words.specs.Numbers.{region_from, region_of};
+ghost use Rattle.command_words.specs.Numbers.{region_from, region_of};
 
 use crate::number::number_of;
 use crate::{LARGEST_REGION, PAGE};
