@@ -9,7 +9,7 @@ pub trait Pace<A> {
     /// A worker has made its steps out of the lock, and has yet to bring them home.
     fn away(&self, _worker: u32, _round: u64, _away: &A) {}
 
-    /// The plan of a job was placed, and has yet to be handed in.
+    /// The plan of a job was worked out, and lies where the workers find it.
     fn placed(&self, _job: u64) {}
 }
 
