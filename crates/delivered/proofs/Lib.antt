@@ -1,4 +1,4 @@
-pub mod Laws
+pub mod Standing
 pub mod Unmoved
 pub mod Following
 pub mod Places

@@ -1,10 +1,7 @@
--- Events that can be done, one after the other.
-use Rattle.std.proofs.Common.{◌≡◌, ℕ, zero, suc, ◌+◌, ◌<◌, List, [], ◌∷◌, ◌++◌, replicate, length, drop, get_or, refl, sym, subst, ap, ◌∙◌}
+-- What leaves the image, and what the live layouts, as they are.
+use Rattle.std.proofs.Common.{◌≡◌, ℕ, zero, suc, List, [], ◌∷◌, ◌++◌, replicate, refl, sym, subst, ap, ◌∙◌}
 use Rattle.std.specs.Prelude.{true, false, if◌then◌else◌, Bool}
-use Rattle.std.specs.List.{AllByRecursion}
-use Rattle.std.proofs.lemmas.List.{drop_more}
 use Rattle.plans.specs.declared.plan.Moved.{Moved}
-use Rattle.sched_log.specs.Ranges.{IsInRange}
 use Rattle.sched_log.specs.declared.event.Event.{Event}
 use Rattle.sched_log.specs.declared.event.Event.TheVariants.{Steps, Real, Till, Snap, Replace, Given, Retire}
 use Rattle.sim_laws.specs.Steps.{is_layout}
@@ -15,8 +12,7 @@ use Rattle.world.specs.Retiring as retiring
 use Rattle.world.specs.Records.{Snaps}
 use Rattle.world.specs.Records as records
 use Rattle.world.specs.Runs.{Atom, a_step, a_real_step, a_snap, a_replacement, a_retirement, IsRun, until_real}
-use Rattle.play.specs.Events.{stretch, harts_in, stretched, turns, Obeys, Obeyed, Plays}
-use Rattle.play.specs.Ready.{CanObey, AreReady}
+use Rattle.delivered.specs.Events.{stretch, harts_in, stretched, turns, Obeys, Plays}
 
 -- image and live layouts are as before
 pub record SameCode (w v : Replaced) : Type 0 where
@@ -94,15 +90,6 @@ snapped_image w v (records.over ended is) = ap (λ (x : Replaced). x.image) is
 snapped_image w v (records.done goes is) = ap (λ (x : Replaced). x.image) is.is
 
 -- ---- events
-pub can_obey : (e : Event) (es : List Event) (w : Replaced) → AreReady (e ∷ es) w → CanObey e w
-can_obey (Steps h n) es w ready = tt
-can_obey (Real h n) es w ready = tt
-can_obey (Till n) es w ready = tt
-can_obey Snap es w ready = tt
-can_obey Replace es w ready = tt
-can_obey (Given plan) es w ready = ready.0.1
-can_obey Retire es w ready = tt
-
 -- no event changes the image
 pub event_image : (e : Event) (hs : List ℕ) (w v : Replaced) → Obeys e hs w v → v.image ≡ w.image
 event_image (Steps h n) hs w v r = (run_unmoved (replicate n (a_step h)) hs w v (steps_are n h) r).image
@@ -116,14 +103,3 @@ event_image Retire hs w v r = ap (λ (x : Replaced). x.image) r.4.1 ∙ retired_
 pub plays_image : (es : List Event) (hs : List ℕ) (w v : Replaced) → Plays es hs w v → v.image ≡ w.image
 plays_image [] hs w v p = ap (λ (x : Replaced). x.image) p.1
 plays_image (e ∷ es) hs w v p = plays_image es p.2 p.0 v p.5 ∙ event_image e p.1 w p.0 p.3
-
--- so what is left of the events is ready after the first
-pub ready_next : (e : Event) (es : List Event) (w u : Replaced) → AreReady (e ∷ es) w → Obeyed e w u → AreReady es u
-ready_next e es w u ready r = subst (λ p. AllByRecursion (IsInRange p) es) (sym (event_image e r.0 w u r.1)) ready.1
-
--- ---- places in a list of events
-pub can_obey_at : (es : List Event) (i : ℕ) (d : Event) (w : Replaced) → i < length es → AreReady (drop i es) w → CanObey (get_or es i d) w
-can_obey_at es i d w below ready = can_obey (get_or es i d) (drop (i + 1) es) w (subst (λ x. AreReady x w) (drop_more es i d below) ready)
-
-pub ready_after : (es : List Event) (i : ℕ) (d : Event) (w u : Replaced) → i < length es → AreReady (drop i es) w → Obeyed (get_or es i d) w u → AreReady (drop (i + 1) es) u
-ready_after es i d w u below ready r = ready_next (get_or es i d) (drop (i + 1) es) w u (subst (λ x. AreReady x w) (drop_more es i d below) ready) r
