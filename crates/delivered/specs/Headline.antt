@@ -1,5 +1,5 @@
 -- What a run delivers is what the original machine delivers. Source: this project; the outline is OCOLOS (Zhang et al., MICRO 2022).
-use Rattle.std.specs.Prelude.{◌≡◌, ◌≢◌, ℕ, List, [], ◌∷◌, ◌++◌, Contains, false, is_some}
+use Rattle.std.specs.Prelude.{◌≡◌, ◌≢◌, ℕ, List, ◌∷◌, ◌++◌, Contains, false, is_some}
 use Rattle.image.specs.Picture.{Picture}
 use Rattle.branch_ring.specs.Profiles.{IsProfile, all_pairs}
 use Rattle.machine.specs.declared.outcome.Outcome.{Outcome}
