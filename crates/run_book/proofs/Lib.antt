@@ -7,3 +7,5 @@ pub mod Books
 pub mod Attempts
 pub mod Runnings
 pub mod Opened
+pub mod Rows
+pub mod Closed

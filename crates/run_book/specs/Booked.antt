@@ -1,5 +1,5 @@
--- What is kept of a run between two lock sections, and how a run ends. Source: this project.
-use Rattle.std.specs.Prelude.{◌≡◌, ◌≤◌, ◌<◌, ℕ, ◌⊎◌, false, length, slice_get, Option, Some, None}
+-- What the book behind the lock keeps, and how a run ends. Source: this project.
+use Rattle.std.specs.Prelude.{◌≡◌, ◌≤◌, ◌<◌, ℕ, ◌⊎◌, Bool, false, length, slice_get, Option, Some, None}
 use Rattle.pacing.specs.Limits.{entry_limit}
 use Rattle.recorder.specs.Recording.{Recorded}
 use Rattle.run_book.specs.declared.ended.Ended.{Ended}
@@ -8,6 +8,16 @@ use Rattle.run_book.specs.declared.running.Running.{Running}
 use Rattle.run_book.specs.Terms.{Terms, AreFair}
 use Rattle.run_book.specs.Told.{told}
 use Rattle.run_book.specs.Sections.{IsRunOf, IsAmid, IsAtRest, AreLast, IsChosen}
+
+-- what a lock lets see of the book: the run so far, and whether being out of memory has ended it
+pub record Booked : Type 0 where
+  pub world : Recorded
+  pub spent : Bool
+
+-- what a worker holds of the ledger: so many of its parts, with so many real steps counted
+pub record Held : Type 0 where
+  pub parts : ℕ
+  pub made : ℕ
 
 -- the numbers of the terms
 pub record HasTerms (t : Terms) (r : Running) : Type 0 where
