@@ -74,14 +74,14 @@ Cause words before after lived WriteFault =
 Cause words before after lived (Script fault) = ⊥
 Cause words before after lived _ = Unit {0}
 
--- the file of the words' record alone may be written, and nothing of any other file changes
-abbrev pub WritesAtMost : Option Words → (before now : Option Disk) → Type 0
-WritesAtMost None before now = now ≡ before
-WritesAtMost (Some said) before now = by said.log_name
-  where
-    by : Option (List ℕ) → Type 0
-    by None = now ≡ before
-    by (Some name) = SameElsewhere before now name
+-- where the words name no file for a record, no file changes, and otherwise none but that one
+abbrev pub OnlyFile : Option (List ℕ) → (before now : Option Disk) → Type 0
+OnlyFile None before now = now ≡ before
+OnlyFile (Some name) before now = SameElsewhere before now name
+
+abbrev pub record_name : Option Words → Option (List ℕ)
+record_name None = None
+record_name (Some said) = said.log_name
 
 -- an end at which no run was to be written
 abbrev pub IsRefusal : Ended → Type 0
@@ -93,7 +93,7 @@ IsRefusal _ = Unit {0}
 -- a first part. Each device fails once at most, and one that can't fail doesn't.
 pub record Devices (words : List (List ℕ)) (before after : Outside) (ended : Ended) : Type 0 where
   pub asked : GainedPart before.asked after.asked (names_of words)
-  pub disk : WritesAtMost (words_of words) before.disk after.disk
+  pub disk : OnlyFile (record_name (words_of words)) before.disk after.disk
   pub unwritten : IsRefusal ended → (after.disk ≡ before.disk) × (after.out ≡ before.out) × (after.puts ≡ before.puts)
   pub input : LostPart before.left after.left
   pub takes : RoseAtMost before.takes after.takes

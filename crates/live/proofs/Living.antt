@@ -1,0 +1,127 @@
+-- What a run of threads gives is what the words ask for.
+use Rattle.std.proofs.Common.{◌≡◌, ◌⊎◌, inl, inr, ◌≤◌, ℕ, ◌+◌, ◌*◌, Bool, true, false, List, length, map, length-map, Option, Some, None, refl, ap, sym, subst, ◌∙◌}
+use Rattle.std.specs.Prelude.{is_some}
+use Rattle.std.specs.Option.{option_map}
+use Rattle.image.specs.Picture.{Picture, IsKept}
+use Rattle.machine.specs.Start.{start_of}
+use Rattle.machine.specs.declared.outcome.Outcome.{Outcome}
+use Rattle.machine.specs.declared.outcome.Outcome.TheVariants.{Limit}
+use Rattle.sched_log.specs.Printed.{printed, ReadsAs}
+use Rattle.sched_log.specs.declared.event.Event.{Event}
+use Rattle.pacing.specs.Clocks.{reals}
+use Rattle.pacing.specs.Limits.{entry_limit}
+use Rattle.pacing.specs.Logs.{steps_of}
+use Rattle.pacing.specs.Pacing.{Paced}
+use Rattle.report.specs.declared.writing.Delivery.{Delivery}
+use Rattle.recorder.specs.Recording.{Recorded}
+use Rattle.world.specs.Worlds.{Replaced, started}
+use Rattle.run_book.specs.Booked.{Ends}
+use Rattle.run_book.specs.Sections.{IsRunOf}
+use Rattle.run_book.specs.Terms.{Terms, AreFair, start_in}
+use Rattle.run_book.specs.Told.{as_told, told, MakesAll}
+use Rattle.run_book.specs.declared.ended.Ended.{Ended}
+use Rattle.run_book.specs.declared.ended.Ended.TheVariants as ended
+use Rattle.delivered.specs.Deliveries.{delivery_of}
+use Rattle.delivered.specs.Events.{Plays, Played}
+use Rattle.delivered.specs.Headline.{Headline}
+use Rattle.live_threads.specs.Ran.{HasRun}
+use Rattle.live_threads.specs.declared.run.Ran.{Ran}
+use Rattle.live_words.specs.Words.{AreInRange}
+use Rattle.live_words.specs.declared.words.Words.{Words}
+use Rattle.live.specs.declared.life.Life.{Life}
+use Rattle.live.specs.declared.life.Record.{Record}
+use Rattle.live.specs.Lives.{ReachesLimit, StaysBelow, HasLived}
+use Rattle.live.specs.Records.{script_limit, IsRecord}
+
+-- the laws that this rests on
+pub record Laws : Type 0 where
+  pub plays : (es : List Event) (w v : Replaced) → MakesAll es w v → Plays es (steps_of es) w v
+  pub back : (t : Terms) (r : Recorded) → AreFair t → IsRunOf t r → Paced t.image (start_in t) t.every (told r) → ReadsAs t.image (told r) (printed (told r))
+  pub size : (t : Terms) (r : Recorded) → AreFair t → IsRunOf t r → Paced t.image (start_in t) t.every (told r) → length (told r) ≤ 16000001 + 4 * length r.at.machine.harts → length (printed (told r)) ≤ script_limit
+  pub headline : (image : Picture) (events : List Event) (ring : ℕ) (input : List ℕ) (harts : List ℕ) (world : Replaced) (unended : Outcome) (shown : Bool) → IsKept image → Plays events harts (started image ring input) world
+      → Headline image events ring (start_of image input) harts (started image ring input) world unended (delivery_of unended shown world)
+  pub one_run : (image : Picture) (events : List Event) (ring : ℕ) (input : List ℕ) (hs gs : List ℕ) (u v : Replaced) → IsKept image → Plays events hs (started image ring input) u → Plays events gs (started image ring input) v → u ≡ v
+
+-- the terms of a run on the words
+abbrev pub terms_by : Picture → (input : List ℕ) → Words → Terms
+terms_by image input said = record { image = image; input = input; ring = said.ring; workers = said.workers; every = said.every; limit = said.limit }
+
+pub fair : (image : Picture) (input : List ℕ) (said : Words) → AreInRange said → AreFair (terms_by image input said)
+fair image input said are = record {
+  some_workers = are.workers.0;
+  few_workers = are.workers.1;
+  some_steps = are.every.0;
+  few_steps = are.every.1;
+  some_limit = are.limit.0;
+  low_limit = are.limit.1;
+}
+
+-- what a run delivers with its log
+abbrev pub life_with : Words → Recorded → (shares : ℕ) → Life
+life_with said r shares = record {
+  delivery = delivery_of (Limit said.limit) said.report r.at;
+  log = told r;
+  shares = shares;
+  record = option_map (λ name. record { name = name; text = printed (told r) }) said.log_name;
+}
+
+pub life_is : (said : Words) (r : Recorded) (shares : ℕ) (life : Life) → life.delivery ≡ delivery_of (Limit said.limit) said.report r.at → life.log ≡ told r → life.shares ≡ shares
+    → life.record ≡ option_map (λ name. record { name = name; text = printed life.log }) said.log_name → life ≡ life_with said r shares
+life_is said r shares life delivery log count named =
+    let record_is : life.record ≡ option_map (λ name. record { name = name; text = printed (told r) }) said.log_name = named ∙ ap (λ l. option_map (λ name. record { name = name; text = printed l }) said.log_name) log in
+    λ i. record { delivery = delivery i; log = log i; shares = count i; record = record_is i }
+
+no_some : (o : Outcome) → is_some (Some o) ≡ false → ⊥
+no_some o is = cc
+
+module _ (laws : Laws) (image : Picture) (input : List ℕ) (said : Words) (kept : IsKept image) (are : AreInRange said) where
+  abbrev t : Terms
+  t = terms_by image input said
+
+  -- what the recorder counts is what its log has
+  reals_are : (r : Recorded) → IsRunOf t r → reals (told r) ≡ r.at.counts.real
+  reals_are r run = run.marked.real_is
+
+  entries_are : (r : Recorded) → length (told r) ≡ length r.journal.entries
+  entries_are r = length-map as_told r.journal.entries
+
+  limit_reached : (r : Recorded) (e : Ended) → IsRunOf t r → Ends t.limit r e → is_some r.at.machine.outcome ≡ false → ReachesLimit t.limit (told r)
+  limit_reached r (ended.Outcome o) run ends none = absurd (no_some o (ap is_some (sym ends) ∙ none))
+  limit_reached r ended.Limit run (is, inl steps) none = inl (subst (λ n. t.limit ≤ n) (sym (reals_are r run)) steps)
+  limit_reached r ended.Limit run (is, inr entries) none = inr (subst (λ n. entry_limit ≤ n) (sym (entries_are r)) entries)
+
+  is_record : (ran : Ran) → HasRun t ran → IsRecord t (told ran.recorder) ran.recorder.at (printed (told ran.recorder))
+  is_record ran has =
+      let r = ran.recorder in
+      let back = laws.back t r (fair image input said are) has.run has.paced in
+      record {
+        is = refl;
+        back = back;
+        within = laws.size t r (fair image input said are) has.run has.paced has.entries;
+        again = λ u played.
+            let plays : Plays (told r) played.0 (started t.image t.ring t.input) u = subst (λ es. Plays es played.0 (started t.image t.ring t.input) u) back.same played.1 in
+            laws.one_run t.image (told r) t.ring t.input played.0 (steps_of (told r)) u r.at kept plays (laws.plays (told r) (started t.image t.ring t.input) r.at has.run.made);
+      }
+
+  has_lived : (ran : Ran) → HasRun t ran → HasLived t said (life_with said ran.recorder ran.shares)
+  has_lived ran has =
+      let r = ran.recorder in
+      let plays = laws.plays (told r) (started t.image t.ring t.input) r.at has.run.made in
+      record {
+        world = r.at;
+        plays = plays;
+        delivers = refl;
+        headline = laws.headline t.image (told r) t.ring t.input (steps_of (told r)) r.at (Limit t.limit) said.report kept plays;
+        paced = has.paced;
+        served = has.served;
+        limited = limit_reached r ran.ended has.run has.ends;
+        below = record { steps = has.steps; entries = has.entries };
+        shares = has.shares_sum ∙ sym (reals_are r has.run);
+        kept = is_record ran has;
+        recorded = refl;
+      }
+
+  pub lived : (ran : Ran) (life : Life) → HasRun t ran → life.delivery ≡ delivery_of (Limit said.limit) said.report ran.recorder.at → life.log ≡ told ran.recorder → life.shares ≡ ran.shares
+      → life.record ≡ option_map (λ name. record { name = name; text = printed life.log }) said.log_name → HasLived t said life
+  lived ran life has delivery log count named =
+      subst (HasLived t said) (sym (life_is said ran.recorder ran.shares life delivery log count named)) (has_lived ran has)
