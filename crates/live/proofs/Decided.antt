@@ -31,19 +31,23 @@ refused e = Err e
 as_refused : (e : Ended) (why : Unread) → e ≡ refusal_of why → refused e ≡ refused (refusal_of why)
 as_refused e why is = ap refused is
 
-module _ (said : Words) (a b : Outside) where
-  -- the program's file was refused
-  pub program_refused : (why : Unread) (e : Ended) → FileRead said.program program_limit a b (Err why) → e ≡ refusal_of why → Decided live (reading_by said) a b (Err e)
-  program_refused why e read is = inl (why, read, as_refused e why is)
+-- `name` is the program's, as the words say it
+module _ (said : Words) (name : List ℕ) (is_name : name ≡ said.program) (a b : Outside) where
+  named_read : (result : Result (List ℕ) Unread) → FileRead name program_limit a b result → FileRead said.program program_limit a b result
+  named_read result read = subst (λ n. FileRead n program_limit a b result) is_name read
 
-  module _ (program : List ℕ) (read : FileRead said.program program_limit a b (Ok program)) (c : Outside) where
+  -- the program's file was refused
+  pub program_refused : (why : Unread) (e : Ended) → FileRead name program_limit a b (Err why) → e ≡ refusal_of why → Decided live (reading_by said) a b (Err e)
+  program_refused why e read is = inl (why, named_read (Err why) read, as_refused e why is)
+
+  module _ (program : List ℕ) (read : FileRead name program_limit a b (Ok program)) (c : Outside) where
     -- the input
     pub input_refused : (why : Unread) (e : Ended) → InputRead b c (Err why) → e ≡ refusal_of why → Decided live (reading_by said) a c (Err e)
-    input_refused why e next is = inr (program, b, read, inl (why, next, as_refused e why is))
+    input_refused why e next is = inr (program, b, named_read (Ok program) read, inl (why, next, as_refused e why is))
 
     -- nothing was refused
     pub all_given : (input : List ℕ) (r : Result Life Ended) → InputRead b c (Ok input) → UnlessFull NoMemory (Lives (record { program = program; input = input; said = said })) r → Decided live (reading_by said) a c r
-    all_given input r next is = inr (program, b, read, inr (input, c, next, (refl, is)))
+    all_given input r next is = inr (program, b, named_read (Ok program) read, inr (input, c, next, (refl, is)))
 
 -- a program that is refused delivers this refusal
 pub refused_program : (asked : Asked) (e : Ended) → Refuses asked.program asked.said.region e ⊎ (e ≡ NoMemory) → UnlessFull NoMemory (Lives asked) (Err e)

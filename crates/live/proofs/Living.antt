@@ -1,5 +1,6 @@
 -- What a run of threads gives is what the words ask for.
-use Rattle.std.proofs.Common.{◌≡◌, ◌⊎◌, inl, inr, ◌≤◌, ℕ, ◌+◌, ◌*◌, Bool, true, false, List, length, map, length-map, Option, Some, None, refl, ap, sym, subst, ◌∙◌}
+use Rattle.std.proofs.Common.{◌≡◌, ◌⊎◌, inl, inr, ◌≤◌, ℕ, ◌+◌, ◌*◌, Bool, true, false, List, length, map, Option, Some, None, refl, ap, sym, subst, ◌∙◌}
+use Rattle.std.proofs.lemmas.List.{length-map}
 use Rattle.std.specs.Prelude.{is_some}
 use Rattle.std.specs.Option.{option_map}
 use Rattle.image.specs.Picture.{Picture, IsKept}
@@ -29,7 +30,7 @@ use Rattle.live_threads.specs.declared.run.Ran.{Ran}
 use Rattle.live_words.specs.Words.{AreInRange}
 use Rattle.live_words.specs.declared.words.Words.{Words}
 use Rattle.live.specs.declared.life.Life.{Life}
-use Rattle.live.specs.declared.life.Record.{Record}
+use Rattle.live.specs.declared.life.RecordFile.{RecordFile}
 use Rattle.live.specs.Lives.{ReachesLimit, StaysBelow, HasLived}
 use Rattle.live.specs.Records.{script_limit, IsRecord}
 
@@ -62,14 +63,14 @@ life_with said r shares = record {
   delivery = delivery_of (Limit said.limit) said.report r.at;
   log = told r;
   shares = shares;
-  record = option_map (λ name. record { name = name; text = printed (told r) }) said.log_name;
+  file = option_map (λ name. record { name = name; text = printed (told r) }) said.log_name;
 }
 
 pub life_is : (said : Words) (r : Recorded) (shares : ℕ) (life : Life) → life.delivery ≡ delivery_of (Limit said.limit) said.report r.at → life.log ≡ told r → life.shares ≡ shares
-    → life.record ≡ option_map (λ name. record { name = name; text = printed life.log }) said.log_name → life ≡ life_with said r shares
+    → life.file ≡ option_map (λ name. record { name = name; text = printed life.log }) said.log_name → life ≡ life_with said r shares
 life_is said r shares life delivery log count named =
-    let record_is : life.record ≡ option_map (λ name. record { name = name; text = printed (told r) }) said.log_name = named ∙ ap (λ l. option_map (λ name. record { name = name; text = printed l }) said.log_name) log in
-    λ i. record { delivery = delivery i; log = log i; shares = count i; record = record_is i }
+    let file_is : life.file ≡ option_map (λ name. record { name = name; text = printed (told r) }) said.log_name = named ∙ ap (λ l. option_map (λ name. record { name = name; text = printed l }) said.log_name) log in
+    λ i. record { delivery = delivery i; log = log i; shares = count i; file = file_is i }
 
 no_some : (o : Outcome) → is_some (Some o) ≡ false → ⊥
 no_some o is = cc
@@ -83,7 +84,7 @@ module _ (laws : Laws) (image : Picture) (input : List ℕ) (said : Words) (kept
   reals_are r run = run.marked.real_is
 
   entries_are : (r : Recorded) → length (told r) ≡ length r.journal.entries
-  entries_are r = length-map as_told r.journal.entries
+  entries_are r = length-map r.journal.entries as_told
 
   limit_reached : (r : Recorded) (e : Ended) → IsRunOf t r → Ends t.limit r e → is_some r.at.machine.outcome ≡ false → ReachesLimit t.limit (told r)
   limit_reached r (ended.Outcome o) run ends none = absurd (no_some o (ap is_some (sym ends) ∙ none))
@@ -118,10 +119,10 @@ module _ (laws : Laws) (image : Picture) (input : List ℕ) (said : Words) (kept
         below = record { steps = has.steps; entries = has.entries };
         shares = has.shares_sum ∙ sym (reals_are r has.run);
         kept = is_record ran has;
-        recorded = refl;
+        filed = refl;
       }
 
   pub lived : (ran : Ran) (life : Life) → HasRun t ran → life.delivery ≡ delivery_of (Limit said.limit) said.report ran.recorder.at → life.log ≡ told ran.recorder → life.shares ≡ ran.shares
-      → life.record ≡ option_map (λ name. record { name = name; text = printed life.log }) said.log_name → HasLived t said life
+      → life.file ≡ option_map (λ name. record { name = name; text = printed life.log }) said.log_name → HasLived t said life
   lived ran life has delivery log count named =
       subst (HasLived t said) (sym (life_is said ran.recorder ran.shares life delivery log count named)) (has_lived ran has)

@@ -138,8 +138,8 @@ part_of_all was now names e = record { count = length names; part = e ∙ ap (ga
 
 -- the answer is one of these
 pub data EndedAs (words : List (List ℕ)) (before after : Outside) (lived : Lived) : Type 0 where
-  is_run : (life : Life) (read : Outside) → Decided live (reading_of words) before read (Ok life) → LifeWritten life.delivery.out (err_of life.delivery) life.record read after → lived ≡ answer_of (Ok life) → EndedAs words before after lived
-  is_broken : (life : Life) (read : Outside) → Decided live (reading_of words) before read (Ok life) → LifeBroken life.record read after → lived ≡ unwritten_of (Ok life) → EndedAs words before after lived
+  is_run : (life : Life) (read : Outside) → Decided live (reading_of words) before read (Ok life) → LifeWritten life.delivery.out (err_of life.delivery) life.file read after → lived ≡ answer_of (Ok life) → EndedAs words before after lived
+  is_broken : (life : Life) (read : Outside) → Decided live (reading_of words) before read (Ok life) → LifeBroken life.file read after → lived ≡ unwritten_of (Ok life) → EndedAs words before after lived
   is_refused : (ended : Ended) (read : Outside) → Decided live (reading_of words) before read (Err ended) → OnlyErr read after → lived ≡ unlived (answer_by ended []) → EndedAs words before after lived
   is_unsaid : (ended : Ended) (read : Outside) → Decided live (reading_of words) before read (Err ended) → OnlyErr read after → Rose read.errs after.errs → lived ≡ unlived (answer_by WriteFault []) → EndedAs words before after lived
 
@@ -158,8 +158,8 @@ module _ (words : List (List ℕ)) (before read after : Outside) (lived : Lived)
   refused_ends WriteFault decided broken is = unsaid WriteFault decided broken is
 
   ended_by : (d : Result Life Ended) → Decided live (reading_of words) before read d → Written lived_ending d read after lived → EndedAs words before after lived
-  ended_by (Ok life) decided (inl (whole, is)) = is_run life read decided (life_written life.delivery.out (err_of life.delivery) life.record read after whole) is
-  ended_by (Ok life) decided (inr (broken, is)) = is_broken life read decided (life_broken life.delivery.out (err_of life.delivery) life.record read after broken) is
+  ended_by (Ok life) decided (inl (whole, is)) = is_run life read decided (life_written life.delivery.out (err_of life.delivery) life.file read after whole) is
+  ended_by (Ok life) decided (inr (broken, is)) = is_broken life read decided (life_broken life.delivery.out (err_of life.delivery) life.file read after broken) is
   ended_by (Err ended) decided (inl (whole, is)) = is_refused ended read decided (line_written (line_of ended) read after whole) is
   ended_by (Err ended) decided (inr (broken, is)) = refused_ends ended decided broken is
 
@@ -200,8 +200,8 @@ limited_is limit most (Some o) own is = absurd (subst (λ x. IsOwn (Some x)) is 
 -- ---- each clause
 
 module _ (words : List (List ℕ)) (before after : Outside) where
-  life_of : (life : Life) (read : Outside) → LifeAt (words_of words) before read life → IsLifeOf words life
-  life_of life read at = record { asked = at.asked; said = at.said; life = at.is }
+  abbrev life_of : (life : Life) (read : Outside) → LifeAt (words_of words) before read life → IsLifeOf words life
+  life_of life read at = record { asked = at.asked; said = at.said; is = at.is }
 
   is_of : (life : Life) (lived : Lived) → lived ≡ answer_of (Ok life) → IsOf life lived
   is_of life lived is = record {
@@ -212,10 +212,10 @@ module _ (words : List (List ℕ)) (before after : Outside) where
   }
 
   -- the record's names come after the program's
-  all_names : (life : Life) (read : Outside) → LifeAt (words_of words) before read life → after.asked ≡ gained read.asked (record_names life.record) → after.asked ≡ gained before.asked (names_of words)
+  all_names : (life : Life) (read : Outside) → LifeAt (words_of words) before read life → after.asked ≡ gained read.asked (record_names life.file) → after.asked ≡ gained before.asked (names_of words)
   all_names life read at asked =
-      asked ∙ ap (λ told. gained told (record_names life.record)) at.names ∙ gained-gained before.asked (at.asked.said.program ∷ []) (record_names life.record)
-      ∙ ap (λ names. gained before.asked (at.asked.said.program ∷ names)) (ap record_names at.is.lived.recorded ∙ names_are at.asked.said.log_name _)
+      asked ∙ ap (λ told. gained told (record_names life.file)) at.names ∙ gained-gained before.asked (at.asked.said.program ∷ []) (record_names life.file)
+      ∙ ap (λ names. gained before.asked (at.asked.said.program ∷ names)) (ap record_names at.is.lived.filed ∙ names_are at.asked.said.log_name _)
       ∙ ap (λ w. gained before.asked (named w)) (sym at.said)
 
   kept_frame : (d : Result Life Ended) (read : Outside) → Decided live (reading_of words) before read d → Frame before read
@@ -266,7 +266,7 @@ module _ (words : List (List ℕ)) (before after : Outside) where
     pub life : Life
     pub read : Outside
     pub decided : Decided live (reading_of words) before read (Ok life)
-    pub written : LifeWritten life.delivery.out (err_of life.delivery) life.record read after
+    pub written : LifeWritten life.delivery.out (err_of life.delivery) life.file read after
     pub is : lived ≡ answer_of (Ok life)
     pub outcome_is : life.delivery.outcome ≡ outcome
 
@@ -306,7 +306,7 @@ module _ (words : List (List ℕ)) (before after : Outside) where
       }
 
   asks_for : (disk : Disk) (input : List ℕ) (life : Life) (asked : Result Asked Ended) → given_by refusal_of (reading_of words) disk input ≡ asked → DecidesBy live asked (Ok life) → AsksFor words disk input life
-  asks_for disk input life (Ok asked) read is = record { asked = asked; read = read; life = is_life asked (Ok life) life refl is }
+  asks_for disk input life (Ok asked) read is = record { asked = asked; read = read; is = is_life asked (Ok life) life refl is }
   asks_for disk input life (Err ended) read is = absurd (no_life life ended is)
 
   asks_run : (disk : Disk) (input : List ℕ) (read : Outside) (life : Life) → Told_of live (reading_of words) disk input before read (Ok life) → AsksFor words disk input life
@@ -324,7 +324,7 @@ module _ (words : List (List ℕ)) (before after : Outside) where
         asked = asks_run disk input m.read m.life (told_of live (reading_of words) disk input before m.read (Ok m.life) tells tells' m.decided);
         answer = is_of m.life lived m.is;
         out = m.written.out_is ∙ ap (λ told. gained told m.life.delivery.out) kept.out;
-        recorded = subst (λ x. Filed m.life.record x after.disk) kept.disk m.written.filed;
+        recorded = subst (λ x. Filed m.life.file x after.disk) kept.disk m.written.filed;
         err = m.written.err_is ∙ ap (λ told. gained told (err_of m.life.delivery)) kept.err;
         left = subst (λ told. ForSome told (λ left. left ≡ [])) (sym m.written.left) at.left;
       }
@@ -335,7 +335,7 @@ module _ (words : List (List ℕ)) (before after : Outside) where
       let part = asked_part live (read_names (words_of words)) (reading_of words) before read d (along (words_of words)) decided in
       part_in (words_of words) before.asked after.asked part.count (same ∙ part.part)
 
-  broken_part : (life : Life) (read : Outside) → Decided live (reading_of words) before read (Ok life) → (after.asked ≡ gained read.asked (record_names life.record)) ⊎ (after.asked ≡ read.asked) → GainedPart before.asked after.asked (names_of words)
+  broken_part : (life : Life) (read : Outside) → Decided live (reading_of words) before read (Ok life) → (after.asked ≡ gained read.asked (record_names life.file)) ⊎ (after.asked ≡ read.asked) → GainedPart before.asked after.asked (names_of words)
   broken_part life read decided (inl asked) = part_of_all before.asked after.asked (names_of words) (all_names life read (life_at (words_of words) before read life decided) asked)
   broken_part life read decided (inr same) = read_part (Ok life) read decided same
 
@@ -345,15 +345,15 @@ module _ (words : List (List ℕ)) (before after : Outside) where
   asked_of lived (is_refused ended read decided leaves is) = read_part (Err ended) read decided (ap (λ (x : Outside). x.asked) leaves)
   asked_of lived (is_unsaid ended read decided leaves rose is) = read_part (Err ended) read decided (ap (λ (x : Outside). x.asked) leaves)
 
-  life_spares : (life : Life) (read : Outside) → Decided live (reading_of words) before read (Ok life) → SpareFiles life.record read.disk after.disk → OnlyFile (record_name (words_of words)) before.disk after.disk
+  life_spares : (life : Life) (read : Outside) → Decided live (reading_of words) before read (Ok life) → SpareFiles life.file read.disk after.disk → OnlyFile (record_name (words_of words)) before.disk after.disk
   life_spares life read decided spared =
       let at = life_at (words_of words) before read life decided in
       let kept = kept_frame (Ok life) read decided in
       subst (λ w. OnlyFile (record_name w) before.disk after.disk) (sym at.said)
-      (spares_only at.asked.said.log_name _ before.disk after.disk (subst (λ r. SpareFiles r before.disk after.disk) at.is.lived.recorded (subst (λ x. SpareFiles life.record x after.disk) kept.disk spared)))
+      (spares_only at.asked.said.log_name _ before.disk after.disk (subst (λ r. SpareFiles r before.disk after.disk) at.is.lived.filed (subst (λ x. SpareFiles life.file x after.disk) kept.disk spared)))
 
   disk_of : (lived : Lived) → EndedAs words before after lived → OnlyFile (record_name (words_of words)) before.disk after.disk
-  disk_of lived (is_run life read decided written is) = life_spares life read decided (filed_spares life.record read.disk after.disk written.filed)
+  disk_of lived (is_run life read decided written is) = life_spares life read decided (filed_spares life.file read.disk after.disk written.filed)
   disk_of lived (is_broken life read decided broken is) = life_spares life read decided broken.spared
   disk_of lived (is_refused ended read decided leaves is) =
       same_only (record_name (words_of words)) before.disk after.disk (ap (λ (x : Outside). x.disk) leaves ∙ (kept_frame (Err ended) read decided).disk)

@@ -14,10 +14,10 @@ use Rattle.report.specs.declared.answer.Ended.{Ended}
 use Rattle.report.specs.declared.answer.Ended.TheVariants.{Ran, Usage, ReadFault, TooLong, Program, Script, WriteFault, NoMemory}
 use Rattle.report.specs.declared.writing.Delivery.{Delivery}
 use Rattle.live.specs.declared.life.Life.{Life}
-use Rattle.live.specs.declared.life.Record.{Record}
+use Rattle.live.specs.declared.life.RecordFile.{RecordFile}
 use Rattle.live.specs.declared.lived.Lived.{Lived}
 use Rattle.live.specs.Decision.{recorded_as}
-use Rattle.live.specs.Ending.{record_writes, writes_of, unlived, lived_ending}
+use Rattle.live.specs.Ending.{record_writes, unlived, answer_of, unwritten_of, lived_ending}
 use Rattle.live.specs.Promise.{Filed, OnlyFile}
 
 -- ---- writes, one list after another
@@ -36,27 +36,27 @@ failed_first (w ∷ ws) vs a b (inl broken) = inl broken
 failed_first (w ∷ ws) vs a b (inr (then, whole, rest)) = inr (then, whole, failed_first ws vs then b rest)
 
 -- a write, the record's, and a last one
-module _ (w v : Write) (record : Option Record) (a b : Outside) where
+module _ (w v : Write) (file : Option RecordFile) (a b : Outside) where
   abbrev all : List Write
-  all = w ∷ (record_writes record ++ v ∷ [])
+  all = w ∷ (record_writes file ++ v ∷ [])
 
   pub first_failed : Broken w a b → WriteFailed all a b
   first_failed broken = inl broken
 
   module _ (first : Whole w a b) (c : Outside) where
-    pub record_failed : WriteFailed (record_writes record) b c → WriteFailed all a c
-    record_failed failed = inr (b, first, failed_first (record_writes record) (v ∷ []) b c failed)
+    pub record_failed : WriteFailed (record_writes file) b c → WriteFailed all a c
+    record_failed failed = inr (b, first, failed_first (record_writes file) (v ∷ []) b c failed)
 
-    module _ (second : AllWritten (record_writes record) b c) (d : Outside) where
+    module _ (second : AllWritten (record_writes file) b c) (d : Outside) where
       pub last_wrote : (result : Result Unit DeviceFailed) → Wrote v c d result → WroteAll all a d result
-      last_wrote (Ok done) whole = (b, first, all_then (record_writes record) (v ∷ []) b c d second (d, whole, refl))
-      last_wrote (Err failed) broken = inr (b, first, failed_later (record_writes record) (v ∷ []) b c d second (inl broken))
+      last_wrote (Ok done) whole = (b, first, all_then (record_writes file) (v ∷ []) b c d second (d, whole, refl))
+      last_wrote (Err failed) broken = inr (b, first, failed_later (record_writes file) (v ∷ []) b c d second (inl broken))
 
-pub no_record : (record : Option Record) (a : Outside) → record ≡ None → AllWritten (record_writes record) a a
-no_record record a none = subst (λ r. AllWritten (record_writes r) a a) (sym none) refl
+pub no_record : (file : Option RecordFile) (a : Outside) → file ≡ None → AllWritten (record_writes file) a a
+no_record file a none = subst (λ r. AllWritten (record_writes r) a a) (sym none) refl
 
-pub one_record : (record : Option Record) (r : Record) (a b : Outside) (result : Result Unit DeviceFailed) → record ≡ Some r → Wrote (to_file r.name r.text) a b result → WroteAll (record_writes record) a b result
-one_record record r a b result some wrote = subst (λ x. WroteAll (record_writes x) a b result) (sym some) (by result wrote)
+pub one_record : (file : Option RecordFile) (r : RecordFile) (a b : Outside) (result : Result Unit DeviceFailed) → file ≡ Some r → Wrote (to_file r.name r.text) a b result → WroteAll (record_writes file) a b result
+one_record file r a b result some wrote = subst (λ x. WroteAll (record_writes x) a b result) (sym some) (by result wrote)
   where
     by : (result : Result Unit DeviceFailed) → Wrote (to_file r.name r.text) a b result → WroteAll (to_file r.name r.text ∷ []) a b result
     by (Ok done) whole = (b, whole, refl)
@@ -65,19 +65,19 @@ one_record record r a b result some wrote = subst (λ x. WroteAll (record_writes
 -- ---- a run
 
 -- the names of the record's file, if there is one
-abbrev pub record_names : Option Record → List (List ℕ)
+abbrev pub record_names : Option RecordFile → List (List ℕ)
 record_names None = []
 record_names (Some r) = r.name ∷ []
 
 -- nothing of other files changed
-abbrev pub SpareFiles : Option Record → (before now : Option Disk) → Type 0
+abbrev pub SpareFiles : Option RecordFile → (before now : Option Disk) → Type 0
 SpareFiles None before now = now ≡ before
 SpareFiles (Some r) before now = SameElsewhere before now r.name
 
 same_disk : (before now : Option Disk) (name : List ℕ) → now ≡ before → SameElsewhere before now name
 same_disk before now name same = λ old tells. (old, same ∙ tells, λ other is. refl)
 
-pub same_spares : (record : Option Record) (before now : Option Disk) → now ≡ before → SpareFiles record before now
+pub same_spares : (file : Option RecordFile) (before now : Option Disk) → now ≡ before → SpareFiles file before now
 same_spares None before now same = same
 same_spares (Some r) before now same = same_disk before now r.name same
 
@@ -86,14 +86,14 @@ same_only None before now same = same
 same_only (Some name) before now same = same_disk before now name same
 
 -- All was written.
-pub record LifeWritten (out err : List ℕ) (record : Option Record) (a b : Outside) : Type 0 where
+pub record LifeWritten (out err : List ℕ) (file : Option RecordFile) (a b : Outside) : Type 0 where
   pub out_is : b.out ≡ gained a.out out
   pub err_is : b.err ≡ gained a.err err
-  pub filed : Filed record a.disk b.disk
-  pub asked : b.asked ≡ gained a.asked (record_names record)
+  pub filed : Filed file a.disk b.disk
+  pub asked : b.asked ≡ gained a.asked (record_names file)
   pub left : b.left ≡ a.left
 
-pub life_written : (out err : List ℕ) (record : Option Record) (a b : Outside) → AllWritten (to_out out ∷ (record_writes record ++ to_err err ∷ [])) a b → LifeWritten out err record a b
+pub life_written : (out err : List ℕ) (file : Option RecordFile) (a b : Outside) → AllWritten (to_out out ∷ (record_writes file ++ to_err err ∷ [])) a b → LifeWritten out err file a b
 life_written out err None a b (c, first, (d, second, same)) =
     let last : b ≡ record c { err = gained c.err err } = same ∙ second in
     record {
@@ -116,20 +116,20 @@ life_written out err (Some r) a b (c, first, (d, put, (e, second, same))) =
     }
 
 -- A device failed.
-pub record LifeBroken (record : Option Record) (a b : Outside) : Type 0 where
+pub record LifeBroken (file : Option RecordFile) (a b : Outside) : Type 0 where
   pub rose : Rose a.outs b.outs ⊎ (Rose a.puts b.puts ⊎ Rose a.errs b.errs)
-  pub spared : SpareFiles record a.disk b.disk
-  pub asked : (b.asked ≡ gained a.asked (record_names record)) ⊎ (b.asked ≡ a.asked)
+  pub spared : SpareFiles file a.disk b.disk
+  pub asked : (b.asked ≡ gained a.asked (record_names file)) ⊎ (b.asked ≡ a.asked)
 
-out_broken : (out : List ℕ) (record : Option Record) (a b : Outside) → Broken (to_out out) a b → LifeBroken record a b
-out_broken out record a b is = record {
+out_broken : (out : List ℕ) (file : Option RecordFile) (a b : Outside) → Broken (to_out out) a b → LifeBroken file a b
+out_broken out file a b is = record {
   rose = inl is.0;
-  spared = same_spares record a.disk b.disk (ap (λ (x : Outside). x.disk) is.2);
+  spared = same_spares file a.disk b.disk (ap (λ (x : Outside). x.disk) is.2);
   asked = inr (ap (λ (x : Outside). x.asked) is.2);
 }
 
-pub life_broken : (out err : List ℕ) (record : Option Record) (a b : Outside) → WriteFailed (to_out out ∷ (record_writes record ++ to_err err ∷ [])) a b → LifeBroken record a b
-life_broken out err record a b (inl broken) = out_broken out record a b broken
+pub life_broken : (out err : List ℕ) (file : Option RecordFile) (a b : Outside) → WriteFailed (to_out out ∷ (record_writes file ++ to_err err ∷ [])) a b → LifeBroken file a b
+life_broken out err file a b (inl broken) = out_broken out file a b broken
 life_broken out err None a b (inr (c, first, inr (d, second, none))) = absurd none
 life_broken out err None a b (inr (c, first, inl broken)) = record {
   rose = inr (inr (subst (λ count. Rose count b.errs) (ap (λ (x : Outside). x.errs) first) broken.0));
@@ -161,7 +161,7 @@ pub spares_only : (name : Option (List ℕ)) (text : List ℕ) (before now : Opt
 spares_only None text before now is = is
 spares_only (Some name) text before now is = is
 
-pub filed_spares : (record : Option Record) (before now : Option Disk) → Filed record before now → SpareFiles record before now
+pub filed_spares : (file : Option RecordFile) (before now : Option Disk) → Filed file before now → SpareFiles file before now
 filed_spares None before now is = is
 filed_spares (Some r) before now is = is.1
 
@@ -179,9 +179,6 @@ line_written line a b (c, first, same) =
 pub line_broken : (line : List ℕ) (a b : Outside) → WriteFailed (to_err line ∷ []) a b → OnlyErr a b × Rose a.errs b.errs
 line_broken line a b (inl broken) = (broken.2, broken.0)
 line_broken line a b (inr (c, first, none)) = absurd none
-
-abbrev refused_life : Ended → Result Life Ended
-refused_life e = Err e
 
 -- a refusal ends a call as it ends the shorter one
 refusal_ends : (e : Ended) (a b : Outside) (answer : Answer) → Written run_ending (Err e) a b answer → Written lived_ending (Err e) a b (unlived answer)
@@ -201,3 +198,11 @@ refused_ends e a b answer (inr is) = inr (refusal_ends NoMemory a b answer is)
 
 pub full_ends : (d : Result Life Ended) (a b : Outside) (answer : Answer) → Written run_ending (Err NoMemory) a b answer → EndsWith lived_ending NoMemory d a b (unlived answer)
 full_ends d a b answer is = inr (refusal_ends NoMemory a b answer is)
+
+-- a run ends it
+module _ (life : Life) (text : List ℕ) (a b : Outside) (lived : Lived) (text_is : text ≡ err_of life.delivery) where
+  pub life_ends : AllWritten (to_out life.delivery.out ∷ (record_writes life.file ++ to_err text ∷ [])) a b → lived ≡ answer_of (Ok life) → EndsWith lived_ending NoMemory (Ok life) a b lived
+  life_ends whole is = inl (inl (subst (λ t. AllWritten (to_out life.delivery.out ∷ (record_writes life.file ++ to_err t ∷ [])) a b) text_is whole, is))
+
+  pub life_fails : WriteFailed (to_out life.delivery.out ∷ (record_writes life.file ++ to_err text ∷ [])) a b → lived ≡ unwritten_of (Ok life) → EndsWith lived_ending NoMemory (Ok life) a b lived
+  life_fails failed is = inl (inr (subst (λ t. WriteFailed (to_out life.delivery.out ∷ (record_writes life.file ++ to_err t ∷ [])) a b) text_is failed, is))

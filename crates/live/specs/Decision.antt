@@ -85,4 +85,4 @@ Decides words disk input d = call.Decides live (reading_of words) disk input d
 pub record AsksFor (words : List (List ℕ)) (disk : Disk) (input : List ℕ) (life : Life) : Type 0 where
   pub asked : Asked
   pub read : given_by refusal_of (reading_of words) disk input ≡ Ok asked
-  pub life : IsLife asked life
+  pub is : IsLife asked life

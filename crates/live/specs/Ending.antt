@@ -8,17 +8,17 @@ use Rattle.report.specs.declared.answer.Answer.{Answer}
 use Rattle.report.specs.declared.answer.Ended.{Ended}
 use Rattle.report.specs.declared.answer.Ended.TheVariants.{Ran, WriteFault, NoMemory}
 use Rattle.live.specs.declared.life.Life.{Life}
-use Rattle.live.specs.declared.life.Record.{Record}
+use Rattle.live.specs.declared.life.RecordFile.{RecordFile}
 use Rattle.live.specs.declared.lived.Lived.{Lived}
 
 -- the file of the record, if it is written
-abbrev pub record_writes : Option Record → List Write
+abbrev pub record_writes : Option RecordFile → List Write
 record_writes None = []
 record_writes (Some r) = to_file r.name r.text ∷ []
 
 -- The guest's own bytes to the first output, then the record, and then the bytes for the second output; after a refusal the last line alone.
 abbrev pub writes_of : Result Life Ended → List Write
-writes_of (Ok life) = to_out life.delivery.out ∷ (record_writes life.record ++ to_err (err_of life.delivery) ∷ [])
+writes_of (Ok life) = to_out life.delivery.out ∷ (record_writes life.file ++ to_err (err_of life.delivery) ∷ [])
 writes_of (Err ended) = to_err (line_of ended) ∷ []
 
 -- with the log of a run

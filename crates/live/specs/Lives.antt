@@ -45,4 +45,4 @@ pub record HasLived (t : Terms) (said : Words) (life : Life) : Type 0 where
   pub shares : life.shares ≡ reals life.log
   -- the log is a record of the run, and is written to the file that is named, if one is
   pub kept : IsRecord t life.log world (printed life.log)
-  pub recorded : life.record ≡ option_map (λ name. record { name = name; text = printed life.log }) said.log_name
+  pub filed : life.file ≡ option_map (λ name. record { name = name; text = printed life.log }) said.log_name

@@ -18,13 +18,13 @@ use Rattle.report.specs.declared.answer.Ended.TheVariants.{Ran, Usage, ReadFault
 use Rattle.live_words.specs.Words.{words_of}
 use Rattle.live_words.specs.declared.words.Words.{Words}
 use Rattle.live.specs.declared.life.Life.{Life}
-use Rattle.live.specs.declared.life.Record.{Record}
+use Rattle.live.specs.declared.life.RecordFile.{RecordFile}
 use Rattle.live.specs.declared.lived.Lived.{Lived}
 use Rattle.live.specs.Decision.{Asked, live, reading_of, names_of, Decides, AsksFor, IsLife}
 use Rattle.live.specs.Lives.{ReachesLimit}
 
 -- The file of the record holds it now, if there is one, and every other file has what it had.
-abbrev pub Filed : Option Record → (before now : Option Disk) → Type 0
+abbrev pub Filed : Option RecordFile → (before now : Option Disk) → Type 0
 Filed None before now = now ≡ before
 Filed (Some r) before now = HasNow before now r.name r.text × SameElsewhere before now r.name
 
@@ -42,7 +42,7 @@ pub record AnswersRun (words : List (List ℕ)) (disk : Disk) (input : List ℕ)
   pub asked : AsksFor words disk input life
   pub answer : IsOf life lived
   pub out : after.out ≡ gained before.out life.delivery.out
-  pub recorded : Filed life.record before.disk after.disk
+  pub recorded : Filed life.file before.disk after.disk
   pub err : after.err ≡ gained before.err (err_of life.delivery)
   pub left : ForSome after.left (λ left. left ≡ [])
 
@@ -50,7 +50,7 @@ pub record AnswersRun (words : List (List ℕ)) (disk : Disk) (input : List ℕ)
 pub record IsLifeOf (words : List (List ℕ)) (life : Life) : Type 0 where
   pub asked : Asked
   pub said : words_of words ≡ Some asked.said
-  pub life : IsLife asked life
+  pub is : IsLife asked life
 
 -- The cause of an end at the limit: some run on the words' terms, with this log, has no outcome and has come to the words' limit.
 pub record AtLimit (words : List (List ℕ)) (most : ℕ) (log : List Event) : Type 0 where
@@ -58,7 +58,7 @@ pub record AtLimit (words : List (List ℕ)) (most : ℕ) (log : List Event) : T
   pub run : IsLifeOf words life
   pub log_is : log ≡ life.log
   pub most_is : most ≡ run.asked.said.limit
-  pub none : run.life.lived.world.machine.outcome ≡ None
+  pub none : run.is.lived.world.machine.outcome ≡ None
   pub reached : ReachesLimit most log
 
 -- The cause of each end, told or not: a run, where the call stopped reading, or which device failed. After a fault of writing the log is

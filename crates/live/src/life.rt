@@ -7,7 +7,7 @@ use sched_log::event::Event;
 
 /// A text for a file: the log as a script.
 #[derive(Debug, Drop)]
-pub struct Record {
+pub struct RecordFile {
     /// The file's name.
     pub name: Text,
     pub text: Items<u8>,
@@ -22,5 +22,5 @@ pub struct Life {
     /// How many real steps the workers counted, all together.
     pub shares: u64,
     /// The record, where the words ask for one.
-    pub record: Option<Record>,
+    pub file: Option<RecordFile>,
 }

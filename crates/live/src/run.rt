@@ -1,6 +1,6 @@
 //! What the bytes of a program and of an input deliver.
 
-ghost use Rattle.std.specs.Prelude.{◌≡◌, IfOk, IfSome, map, option_map};
+ghost use Rattle.std.specs.Prelude.{◌≡◌, [], IfOk, IfSome, option_map};
 ghost use Rattle.image.specs.Picture.{IsPaged, IsKept};
 ghost use Rattle.sched_log.specs.Printed.{printed};
 ghost use Rattle.live_words.specs.Words.{AreInRange};
@@ -12,7 +12,7 @@ ghost use Rattle.live.specs.Decision.{Lives, terms_of};
 ghost use Rattle.live.specs.Lives.{HasLived};
 ghost use Rattle.machine.specs.declared.outcome.Outcome.{Outcome};
 
-use crate::life::{Life, Record};
+use crate::life::{Life, RecordFile};
 use crate::telling::tell_all;
 use delivered::build::build;
 use delivered::deliver::deliver;
@@ -34,11 +34,11 @@ use std::sync::Wait;
 use std::thread::Threads;
 
 // The record for the file of this name, if there is one.
-fn record_of(
+fn file_of(
     alloc: Global,
     name: &Option<Text>,
     log: &[Event],
-) -> Result<Option<Record>, NoMemory>
+) -> Result<Option<RecordFile>, NoMemory>
     ensures { IfOk result (λ r. r ≡ option_map (λ n. record { name = n; text = printed log.now }) name.now) }
 {
     let Some(name) = name else {
@@ -46,7 +46,7 @@ fn record_of(
     };
     let name = Text::copy_of(alloc, name.as_str())?;
     let text = write_log(alloc, log)?;
-    Ok(Some(Record { name, text }))
+    Ok(Some(RecordFile { name, text }))
 }
 
 // What a run delivers.
@@ -54,7 +54,7 @@ fn life_of(alloc: Global, ran: Ran, said: &Words) -> Result<Life, NoMemory>
     ensures delivery { IfOk result (λ l. l.delivery ≡ delivery_of (Outcome.Limit said.now.limit) said.now.report ran.recorder.at) }
     ensures log { IfOk result (λ l. l.log ≡ told ran.recorder) }
     ensures shares { IfOk result (λ l. l.shares ≡ ran.shares) }
-    ensures recorded { IfOk result (λ l. l.record ≡ option_map (λ n. record { name = n; text = printed l.log }) said.now.log_name) }
+    ensures recorded { IfOk result (λ l. l.file ≡ option_map (λ n. record { name = n; text = printed l.log }) said.now.log_name) }
 {
     let Ran {
         recorder, shares, ..
@@ -62,12 +62,12 @@ fn life_of(alloc: Global, ran: Ran, said: &Words) -> Result<Life, NoMemory>
     let limit = Outcome::Limit { most: said.limit };
     let delivery = deliver(alloc, recorder.world(), limit, said.report)?;
     let log = tell_all(recorder.into_log());
-    let record = record_of(alloc, &said.log_name, log.as_slice())?;
+    let file = file_of(alloc, &said.log_name, log.as_slice())?;
     Ok(Life {
         delivery,
         log,
         shares,
-        record,
+        file,
     })
 }
 

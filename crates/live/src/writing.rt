@@ -7,7 +7,7 @@ ghost use Rattle.top_call.specs.Writing.{to_out, to_err, WroteAll};
 ghost use Rattle.report.specs.Cause.{answer_by, err_of};
 ghost use Rattle.live.specs.Ending.{record_writes, unlived, answer_of, unwritten_of, lived_ending};
 
-use crate::life::{Life, Record};
+use crate::life::{Life, RecordFile};
 use crate::lived::Lived;
 use oc_base::fault::{Failed, NoMemory};
 use oc_base::files::Files;
@@ -33,13 +33,13 @@ fn err_text(alloc: Global, delivery: &Delivery) -> Result<Items<u8>, NoMemory>
 }
 
 // Writes the record, if there is one.
-fn write_record<F: Files>(files: &mut F, record: &Option<Record>) -> Result<(), Failed>
-    ensures { (rest : Outside) → WroteAll (record_writes record.now) (with_files F.Files files.old rest) (with_files F.Files files.new rest) result }
+fn write_record<F: Files>(files: &mut F, file: &Option<RecordFile>) -> Result<(), Failed>
+    ensures { (rest : Outside) → WroteAll (record_writes file.now) (with_files F.Files files.old rest) (with_files F.Files files.new rest) result }
 {
-    let Some(record) = record else {
+    let Some(file) = file else {
         return Ok(());
     };
-    write_file(files, record.name.as_str(), record.text.as_slice())
+    write_file(files, file.name.as_str(), file.text.as_slice())
 }
 
 // Writes what a run delivers, with this text for the second output.
@@ -50,14 +50,14 @@ fn write_life<F: Files, O: Sink, E: Sink>(
     out: &mut O,
     err: &mut E,
 ) -> Result<(), Failed>
-    ensures { (rest : Outside) → WroteAll (to_out life.now.delivery.out ∷ (record_writes life.now.record ++ to_err text.now ∷ []))
+    ensures { (rest : Outside) → WroteAll (to_out life.now.delivery.out ∷ (record_writes life.now.file ++ to_err text.now ∷ []))
         (with_files F.Files files.old (with_out O.Sink out.old (with_err E.Sink err.old rest)))
         (with_files F.Files files.new (with_out O.Sink out.new (with_err E.Sink err.new rest))) result }
 {
     let Ok(()) = write_out(out, life.delivery.out.as_slice()) else {
         return Err(Failed);
     };
-    let Ok(()) = write_record(files, &life.record) else {
+    let Ok(()) = write_record(files, &life.file) else {
         return Err(Failed);
     };
     write_err(err, text)
