@@ -6,6 +6,7 @@ use Rattle.top_call.specs.Reading.{FileRead, InputRead}
 use Rattle.top_call.specs.declared.reading.Unread.{Unread}
 use Rattle.top_call.proofs.Called.{full_before}
 use Rattle.image.specs.Picture.{Picture}
+use Rattle.machine.specs.declared.outcome.Outcome.TheVariants.{Unfinished}
 use Rattle.play_words.specs.declared.words.Guest.{Guest}
 use Rattle.play_words.specs.declared.words.Guest.TheVariants.{Files, Generated}
 use Rattle.play_words.specs.declared.words.Words.{Words}
@@ -13,13 +14,15 @@ use Rattle.report.specs.Cause.{refusal_of}
 use Rattle.report.specs.declared.answer.Ended.{Ended}
 use Rattle.report.specs.declared.answer.Ended.TheVariants.{Ran, Usage, ReadFault, TooLong, Program, Script, WriteFault, NoMemory}
 use Rattle.report.specs.declared.writing.Delivery.{Delivery}
-use Rattle.play.specs.Decision.{program_limit, script_limit, Subject, of_files, a_guest, Asked, HasBytes, as_read, as_generated, Given, given_with, reading_by, reading_for, IsBuilt, Refuses, RunsTo, delivery_of, Delivers, bad_program, bad_script, ran, Answers, play}
+use Rattle.play.specs.Decision.{program_limit, script_limit, Subject, of_files, a_guest, Asked, HasBytes, as_read, as_generated, Given, given_with, reading_by, reading_for, RunsTo, Delivers, bad_program, bad_script, ran, Answers, play}
 use Rattle.play.specs.Generated.{IsGuest, guest_script}
 use Rattle.sched_log.specs.Ranges.{AreInRange}
 use Rattle.sched_log.specs.Script.{fault_of, events_of}
 use Rattle.sched_log.specs.declared.event.Event.{Event}
 use Rattle.world.specs.Worlds.{Replaced, started}
-use Rattle.play.specs.Events.{Played}
+use Rattle.delivered.specs.Building.{IsBuilt, Refuses}
+use Rattle.delivered.specs.Deliveries.{delivery_of}
+use Rattle.delivered.specs.Events.{Played}
 
 -- the words say nothing
 pub words_refused : (w : Option Words) (a : Outside) → w ≡ None → Decided play (reading_for w) a a (Err Usage)
@@ -113,7 +116,7 @@ run_program given image r built (inr is) = inr is
 
 -- a run whose script has no fault
 pub is_run : (image : Picture) (text input : List ℕ) (ring : ℕ) (shown : Bool) (events : List Event) (world : Replaced) (d : Delivery) → fault_of image text ≡ None → events ≡ events_of image text → AreInRange image events
-    → Played events (started image ring input) world → d ≡ delivery_of shown world → UnlessFull NoMemory (RunsTo image text input ring shown) (Ok d)
+    → Played events (started image ring input) world → d ≡ delivery_of Unfinished shown world → UnlessFull NoMemory (RunsTo image text input ring shown) (Ok d)
 is_run image text input ring shown events world d none is range played made = inl (
   world,
   record {

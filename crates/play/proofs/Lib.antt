@@ -1,16 +1,8 @@
 pub mod Attempted
 pub mod Decided
-pub mod Laws
 pub mod OneDecision
-pub mod OneReplacement
-pub mod OneRetirement
-pub mod OneSnapshot
-pub mod OneText
-pub mod OneWord
 pub mod Originally
-pub mod Places
 pub mod ReadyNext
 pub mod Running
 pub mod Whole
-pub mod WorldLaws
 pub mod Promised

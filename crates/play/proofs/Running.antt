@@ -7,7 +7,7 @@ use Rattle.sched_log.specs.declared.event.Event.{Event}
 use Rattle.world.proofs.Stepping.{ended_step}
 use Rattle.world.specs.Worlds.{Replaced, step_of}
 use Rattle.world.specs.Runs.{Atom, a_step, a_real_step, Makes, IsRun, harts_of, until_real, real_step_of, real_steps_of}
-use Rattle.play.specs.Events.{stretch, harts_in, stretched, turns, Runs, Obeyed, Played}
+use Rattle.delivered.specs.Events.{stretch, harts_in, stretched, turns, Runs, Obeyed, Played}
 
 pub runs_none : (w : Replaced) → Runs [] w w
 runs_none w = ([], (refl, refl))

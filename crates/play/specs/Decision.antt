@@ -1,34 +1,28 @@
 -- What a call reads for its words, and what the bytes deliver: the first fault that holds, or what the run shows.
-use Rattle.std.specs.Prelude.{◌≡◌, ℕ, Bool, List, [], ◌∷◌, ◌++◌, length, ◌-◌, slice_index, ◌==◌, Option, Some, None, Result, Ok, Err, if◌then◌else◌}
+use Rattle.std.specs.Prelude.{◌≡◌, ℕ, Bool, List, Option, Some, None, Result, Ok, Err}
 use Rattle.oc_base.specs.Outside.{Disk}
 use Rattle.oc_base.specs.declared.range.Range.{Range}
 use Rattle.top_call.specs.Call as call
 use Rattle.top_call.specs.Reading.{Reading, all_read, a_file, the_input}
-use Rattle.image.specs.Picture.{Picture, IsKept}
-use Rattle.elf_read.specs.Faults as elf
-use Rattle.elf_read.specs.Parts.{parts_of}
-use Rattle.relocs.specs.Built as built
-use Rattle.relocs.specs.Regions as regions
+use Rattle.image.specs.Picture.{Picture}
 use Rattle.sched_log.specs.Script as script
 use Rattle.sched_log.specs.Ranges.{AreInRange}
 use Rattle.sched_log.specs.declared.fault.ScriptFault.{ScriptFault}
 use Rattle.report.specs.Cause.{running}
-use Rattle.report.specs.Text.{report_of}
 use Rattle.report.specs.declared.answer.Answer.{Answer}
 use Rattle.report.specs.declared.answer.Ended.{Ended}
 use Rattle.report.specs.declared.answer.Ended.TheVariants.{Usage, Program, Script}
 use Rattle.report.specs.declared.answer.ProgramFault.{ProgramFault}
-use Rattle.report.specs.declared.answer.ProgramFault.TheVariants as program
 use Rattle.report.specs.declared.writing.Delivery.{Delivery}
-use Rattle.machine.specs.declared.outcome.Outcome.{Outcome}
 use Rattle.machine.specs.declared.outcome.Outcome.TheVariants.{Unfinished}
 use Rattle.world.specs.Worlds.{Replaced, started}
-use Rattle.world.specs.Told.{facts_of}
 use Rattle.play_words.specs.Words.{words_of}
 use Rattle.play_words.specs.declared.words.Guest.{Guest}
 use Rattle.play_words.specs.declared.words.Guest.TheVariants.{Files, Generated}
 use Rattle.play_words.specs.declared.words.Words.{Words}
-use Rattle.play.specs.Events.{Played}
+use Rattle.delivered.specs.Building.{IsBuilt, HasFault}
+use Rattle.delivered.specs.Deliveries.{delivery_of}
+use Rattle.delivered.specs.Events.{Played}
 use Rattle.play.specs.Generated.{IsGuest, guest_script}
 
 -- the most bytes of a program's file
@@ -83,46 +77,6 @@ abbrev pub given_with : Words → (program script input : List ℕ) → Given
 given_with said program script input =
     record { program = program; script = script; input = input; region = said.region; ring = said.ring; shown = said.report }
 
--- a text with a newline at its end, if it isn't empty
-abbrev pub closed : List ℕ → List ℕ
-closed text = if length text == 0 then [] else (if slice_index text (length text - 1) == 10 then text else text ++ 10 ∷ [])
-
--- a run that hasn't ended with the script is unfinished
-abbrev pub outcome_of : Option Outcome → Outcome
-outcome_of (Some outcome) = outcome
-outcome_of None = Unfinished
-
--- what a world delivers: outcome and outputs, and its report, which is shown or not
-abbrev pub delivery_of : (shown : Bool) → Replaced → Delivery
-delivery_of shown w = record {
-  outcome = outcome_of w.machine.outcome;
-  out = w.machine.system.out;
-  err = closed w.machine.system.err;
-  report = report_of (facts_of w);
-  shown = shown;
-}
-
--- the region where moved code may lie: the one that is given, or the default
-abbrev pub region_in : (program : List ℕ) → Option Range → Range
-region_in program region = regions.region_of (parts_of program) region
-
--- an executable without a fault has this image, and it keeps what each image does
-pub record IsBuilt (bytes : List ℕ) (region : Option Range) (image : Picture) : Type 0 where
-  pub fine : elf.fault_of bytes ≡ None
-  pub free : built.fault_of (parts_of bytes) (region_in bytes region) ≡ None
-  pub is : built.IsImage (parts_of bytes) (region_in bytes region) image
-  pub kept : IsKept image
-
--- the first fault of a program's file, or else of its image
-abbrev pub HasFault : (program : List ℕ) → Option Range → ProgramFault → Type 0
-HasFault bytes region (program.Elf fault) = elf.fault_of bytes ≡ Some fault
-HasFault bytes region (program.Image fault) = (elf.fault_of bytes ≡ None) × (built.fault_of (parts_of bytes) (region_in bytes region) ≡ Some fault)
-
--- a refusal that is a fault of the program
-abbrev pub Refuses : (program : List ℕ) → Option Range → Ended → Type 0
-Refuses bytes region (Program fault) = HasFault bytes region fault
-Refuses bytes region _ = ⊥
-
 -- the world at the end of the run of an image under a script without a fault
 pub record IsPlayed (image : Picture) (text input : List ℕ) (ring : ℕ) (world : Replaced) : Type 0 where
   pub fine : script.fault_of image text ≡ None
@@ -131,7 +85,7 @@ pub record IsPlayed (image : Picture) (text input : List ℕ) (ring : ℕ) (worl
 
 -- what the run of an image delivers, or the script's first fault
 abbrev pub RunsTo : Picture → (text input : List ℕ) → (ring : ℕ) → (shown : Bool) → Result Delivery Ended → Type 0
-RunsTo image text input ring shown (Ok delivery) = (world : Replaced) × IsPlayed image text input ring world × (delivery ≡ delivery_of shown world)
+RunsTo image text input ring shown (Ok delivery) = (world : Replaced) × IsPlayed image text input ring world × (delivery ≡ delivery_of Unfinished shown world)
 RunsTo image text input ring shown (Err (Script fault)) = script.fault_of image text ≡ Some fault
 RunsTo image text input ring shown (Err _) = ⊥
 
@@ -139,7 +93,7 @@ RunsTo image text input ring shown (Err _) = ⊥
 pub data Delivers (given : Given) : Result Delivery Ended → Type 0 where
   bad_program : (fault : ProgramFault) → HasFault given.program given.region fault → Delivers given (Err (Program fault))
   bad_script : (image : Picture) (fault : ScriptFault) → IsBuilt given.program given.region image → script.fault_of image given.script ≡ Some fault → Delivers given (Err (Script fault))
-  ran : (image : Picture) (world : Replaced) → IsBuilt given.program given.region image → IsPlayed image given.script given.input given.ring world → Delivers given (Ok (delivery_of given.shown world))
+  ran : (image : Picture) (world : Replaced) → IsBuilt given.program given.region image → IsPlayed image given.script given.input given.ring world → Delivers given (Ok (delivery_of Unfinished given.shown world))
 
 -- what is read delivers what its bytes deliver
 pub record Answers (asked : Asked) (d : Result Delivery Ended) : Type 0 where

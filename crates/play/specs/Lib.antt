@@ -1,6 +1,5 @@
 pub mod Promise
 pub mod Decision
-pub mod Events
 pub mod Generated
 pub mod Originals
 pub mod Ready

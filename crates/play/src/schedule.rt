@@ -10,7 +10,7 @@ ghost use Rattle.world.specs.Records.{Snaps};
 ghost use Rattle.world.specs.Replacing.{Replaces};
 ghost use Rattle.world.specs.Retiring.{Retires};
 ghost use Rattle.world.specs.Worlds.{started};
-ghost use Rattle.play.specs.Events.{harts_in, stretched, turns, Runs, Obeyed, Played};
+ghost use Rattle.delivered.specs.Events.{harts_in, stretched, turns, Runs, Obeyed, Played};
 ghost use Rattle.play.specs.Ready.{CanObey, AreReady};
 
 use image::picture::Image;

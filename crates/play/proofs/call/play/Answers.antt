@@ -4,7 +4,7 @@ use Rattle.play.specs.Decision as decision
 use Rattle.play.proofs.OneDecision.{one_decision}
 use Rattle.play.proofs.Promised.{promised}
 use Rattle.play.proofs.Whole.{runs_originally}
-use Rattle.play.proofs.WorldLaws.{laws, one_result}
+use Rattle.delivered.proofs.WorldLaws.{laws, one_result}
 use Rattle.play.proofs.call.play.Goals as goal
 
 pub returns : goal.returns

@@ -1,7 +1,7 @@
 use Rattle.std.proofs.Common.{◌≡◌, [], replicate, subst, sym}
 use Rattle.std.proofs.lemmas.Result.{on_ok_weaker}
 use Rattle.world.specs.Runs.{a_real_step, a_snap, a_replacement, a_retirement}
-use Rattle.play.specs.Events.{Runs, Obeyed}
+use Rattle.delivered.specs.Events.{Runs, Obeyed}
 use Rattle.std.specs.Prelude.{None}
 use Rattle.plans.specs.Given.{plan_fault}
 use Rattle.play.specs.Ready.{CanObey}

@@ -1,5 +1,5 @@
 use Rattle.std.proofs.Common.{subst}
-use Rattle.play.specs.Events.{Obeyed}
+use Rattle.delivered.specs.Events.{Obeyed}
 use Rattle.play.proofs.ReadyNext.{ready_after}
 use Rattle.play.proofs.Running.{events_left}
 use Rattle.play.proofs.schedule.obey_all.Goals as goal

@@ -1,6 +1,6 @@
 use Rattle.std.proofs.Common.{drop}
 use Rattle.world.specs.Worlds.{Replaced}
-use Rattle.play.specs.Events.{Played}
+use Rattle.delivered.specs.Events.{Played}
 use Rattle.play.specs.Ready.{AreReady}
 use Rattle.play.proofs.schedule.obey_all.Given as goal
 

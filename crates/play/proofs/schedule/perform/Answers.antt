@@ -1,6 +1,6 @@
 use Rattle.std.proofs.Common.{subst}
 use Rattle.world.specs.Worlds.{Replaced}
-use Rattle.play.specs.Events.{Played}
+use Rattle.delivered.specs.Events.{Played}
 use Rattle.play.proofs.schedule.perform.Goals as goal
 
 pub returns : goal.returns

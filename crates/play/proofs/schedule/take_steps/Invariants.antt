@@ -1,7 +1,7 @@
 use Rattle.std.proofs.Common.{◌-◌, replicate}
 use Rattle.world.specs.Worlds.{Replaced}
 use Rattle.world.specs.Runs.{a_step}
-use Rattle.play.specs.Events.{Runs}
+use Rattle.delivered.specs.Events.{Runs}
 use Rattle.play.proofs.schedule.take_steps.Given as goal
 
 -- with the steps that are left all are made

@@ -1,6 +1,6 @@
 use Rattle.std.proofs.Common.{◌+◌, ◌-◌, length, sym, ap, ◌∙◌, arith}
 use Rattle.std.specs.List.{range_with_len}
-use Rattle.play.specs.Events.{stretched}
+use Rattle.delivered.specs.Events.{stretched}
 use Rattle.play.proofs.Running.{turn_left}
 use Rattle.play.proofs.schedule.take_turn.Goals as goal
 

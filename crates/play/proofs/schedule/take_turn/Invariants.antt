@@ -1,6 +1,6 @@
 use Rattle.std.proofs.Common.{◌≡◌, ◌-◌, length}
 use Rattle.std.specs.List.{range_with_len}
-use Rattle.play.specs.Events.{harts_in, stretched}
+use Rattle.delivered.specs.Events.{harts_in, stretched}
 use Rattle.play.proofs.schedule.take_turn.Given as goal
 
 -- the steps that are left make the same of the world

@@ -1,6 +1,6 @@
 use Rattle.std.proofs.Common.{◌-◌}
 use Rattle.world.specs.Worlds.{Replaced}
-use Rattle.play.specs.Events.{turns, Runs}
+use Rattle.delivered.specs.Events.{turns, Runs}
 use Rattle.play.proofs.schedule.take_turns.Given as goal
 
 -- with the turns that are left all are made

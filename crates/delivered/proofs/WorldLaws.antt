@@ -28,10 +28,10 @@ use Rattle.world.proofs.Recording.{start_records}
 use Rattle.world.proofs.RecordedRuns.{run_records}
 use Rattle.world.proofs.Snapping.{snaps_related, snaps_orderly}
 use Rattle.world.proofs.Starting.{started_related}
-use Rattle.play.proofs.Laws.{Stands, Laws, OneResult}
-use Rattle.play.proofs.OneReplacement.{one_replacement}
-use Rattle.play.proofs.OneRetirement.{one_retirement}
-use Rattle.play.proofs.OneSnapshot.{one_snapshot}
+use Rattle.delivered.proofs.Standing.{Stands, Laws, OneResult}
+use Rattle.delivered.proofs.OneReplacement.{one_replacement}
+use Rattle.delivered.proofs.OneRetirement.{one_retirement}
+use Rattle.delivered.proofs.OneSnapshot.{one_snapshot}
 
 step_orderly : (h : ℕ) (w : Replaced) → IsOrderly w.machine.system → IsOrderly (step_of h w).machine.system
 unfolding step_of

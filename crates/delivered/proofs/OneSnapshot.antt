@@ -1,5 +1,5 @@
 -- A snapshot of a world has one result.
-use Rattle.std.proofs.Common.{◌≡◌, true, false, sym, ap, ◌∙◌}
+use Rattle.std.proofs.Common.{◌≡◌, sym, ap, ◌∙◌}
 use Rattle.std.proofs.lemmas.Bool.{false≢true}
 use Rattle.branch_ring.specs.Profiles.{all_pairs}
 use Rattle.branch_ring.proofs.Ascending.{one_profile}

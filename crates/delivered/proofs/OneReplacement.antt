@@ -1,5 +1,5 @@
 -- A replacement from a world has one result.
-use Rattle.std.proofs.Common.{◌≡◌, ◌≢◌, ◌⊎◌, inl, inr, ◌<◌, ◌≤◌, ◌+◌, ◌*◌, ◌^◌, ℕ, zero, suc, true, false, List, [], ◌∷◌, length, refl, sym, ap, subst, ◌∙◌, arith}
+use Rattle.std.proofs.Common.{◌≡◌, ◌≢◌, ◌⊎◌, inl, inr, ◌<◌, ◌≤◌, ◌+◌, ◌*◌, ◌^◌, ℕ, zero, suc, true, List, [], ◌∷◌, length, refl, sym, ap, subst, ◌∙◌, arith}
 use Rattle.std.specs.Prelude.{Option, Some, None, IfSome, IsSome, All, AllPairs, slice_get, is_some}
 use Rattle.std.proofs.lemmas.List.Elements.{All-tail}
 use Rattle.std.proofs.lemmas.Bool.{cases_lt, false≢true}
@@ -31,8 +31,8 @@ use Rattle.sched_log.specs.declared.facts.Refusal.{Refusal}
 use Rattle.sched_log.specs.declared.facts.Refusal.TheVariants as refusal
 use Rattle.world.specs.Worlds.{Replaced}
 use Rattle.world.specs.Replacing.{size_of, IsNew, no_layout, layout_at, IsOutOfReach, in_layout, in_call, Refuses, IsReplaced, Replaces, over, done, refused, refused_as}
-use Rattle.play.proofs.OneWord.{one_decoded}
-use Rattle.play.proofs.OneText.{same_items, get_below, same_text}
+use Rattle.delivered.proofs.OneWord.{one_decoded}
+use Rattle.delivered.proofs.OneText.{same_items, get_below, same_text}
 
 -- ---- words of 32 bits
 abbrev pub SmallLayout : Laid → Type 0

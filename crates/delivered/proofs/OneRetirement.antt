@@ -1,5 +1,5 @@
 -- A retirement of a world has one result.
-use Rattle.std.proofs.Common.{◌≡◌, true, false, sym, ap, ◌∙◌}
+use Rattle.std.proofs.Common.{◌≡◌, sym, ap, ◌∙◌}
 use Rattle.std.proofs.lemmas.Bool.{false≢true}
 use Rattle.retire.proofs.LeastSet.{one_list}
 use Rattle.world.specs.Worlds.{Replaced}

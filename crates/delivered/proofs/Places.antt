@@ -13,8 +13,8 @@ use Rattle.world.specs.Replacing.{Replaces, over, done, refused, refused_as}
 use Rattle.world.specs.Retiring as retiring
 use Rattle.world.specs.Records as records
 use Rattle.world.specs.Runs.{Atom, a_step, a_real_step, a_snap, a_replacement, a_retirement, Makes, IsRun, until_real}
-use Rattle.play.specs.Events.{turns, Obeys, Plays}
-use Rattle.play.specs.Originals.{InPlace}
+use Rattle.delivered.specs.Events.{turns, Obeys, Plays}
+use Rattle.delivered.specs.Headline.{InPlace}
 
 -- ---- places
 split_plays : (before rest : List Event) (hs : List ℕ) (w v : Replaced) → Plays (before ++ rest) hs w v

@@ -1,0 +1,13 @@
+pub mod Standing
+pub mod Unmoved
+pub mod Following
+pub mod Places
+pub mod OneText
+pub mod OneWord
+pub mod OneReplacement
+pub mod OneRetirement
+pub mod OneSnapshot
+pub mod OneImage
+pub mod OneRun
+pub mod WorldLaws
+pub mod Headlined

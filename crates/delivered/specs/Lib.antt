@@ -1,0 +1,4 @@
+pub mod Headline
+pub mod Building
+pub mod Deliveries
+pub mod Events
