@@ -1,24 +1,26 @@
 -- What a run of threads gives is what the words ask for.
-use Rattle.std.proofs.Common.{◌≡◌, ◌⊎◌, inl, inr, ◌≤◌, ℕ, ◌+◌, ◌*◌, Bool, true, false, List, length, map, Option, Some, None, refl, ap, sym, subst, ◌∙◌}
+use Rattle.std.proofs.Common.{◌≡◌, ◌⊎◌, inl, inr, ◌≤◌, ℕ, ◌+◌, ◌*◌, arith, Bool, true, false, List, length, map, Option, Some, None, refl, ap, sym, subst, ◌∙◌}
 use Rattle.std.proofs.lemmas.List.{length-map}
 use Rattle.std.specs.Prelude.{is_some}
 use Rattle.std.specs.Option.{option_map}
 use Rattle.image.specs.Picture.{Picture, IsKept}
 use Rattle.machine.specs.Start.{start_of}
+use Rattle.machine.specs.States.{State}
 use Rattle.machine.specs.declared.outcome.Outcome.{Outcome}
 use Rattle.machine.specs.declared.outcome.Outcome.TheVariants.{Limit}
 use Rattle.sched_log.specs.Printed.{printed, ReadsAs}
 use Rattle.sched_log.specs.declared.event.Event.{Event}
 use Rattle.pacing.specs.Clocks.{reals}
 use Rattle.pacing.specs.Limits.{entry_limit}
-use Rattle.pacing.specs.Logs.{steps_of}
+use Rattle.pacing.specs.Logs.{steps_of, state_at}
 use Rattle.pacing.specs.Pacing.{Paced}
 use Rattle.report.specs.declared.writing.Delivery.{Delivery}
 use Rattle.recorder.specs.Recording.{Recorded}
 use Rattle.world.specs.Worlds.{Replaced, started}
 use Rattle.run_book.specs.Booked.{Ends}
 use Rattle.run_book.specs.Sections.{IsRunOf}
-use Rattle.run_book.specs.Terms.{Terms, AreFair, start_in}
+use Rattle.run_book.specs.Terms.{Terms, AreFair, start_in, state_in}
+use Rattle.run_book.proofs.Alike.{same_many}
 use Rattle.run_book.specs.Told.{as_told, told, MakesAll}
 use Rattle.run_book.specs.declared.ended.Ended.{Ended}
 use Rattle.run_book.specs.declared.ended.Ended.TheVariants as ended
@@ -37,8 +39,8 @@ use Rattle.live.specs.Records.{script_limit, IsRecord}
 -- the laws that this rests on
 pub record Laws : Type 0 where
   pub plays : (es : List Event) (w v : Replaced) → MakesAll es w v → Plays es (steps_of es) w v
-  pub back : (t : Terms) (r : Recorded) → AreFair t → IsRunOf t r → Paced t.image (start_in t) t.every (told r) → ReadsAs t.image (told r) (printed (told r))
-  pub size : (t : Terms) (r : Recorded) → AreFair t → IsRunOf t r → Paced t.image (start_in t) t.every (told r) → length (told r) ≤ 16000001 + 4 * length r.at.machine.harts → length (printed (told r)) ≤ script_limit
+  pub back : (p : Picture) (start : State) (every : ℕ) (log : List Event) → IsKept p → Paced p start every log → length (state_at p start log).harts ≤ 64 → reals log ≤ 2000000000 → ReadsAs p log (printed log)
+  pub text : (p : Picture) (start : State) (every : ℕ) (log : List Event) → Paced p start every log → length (state_at p start log).harts ≤ 64 → length (printed log) ≤ 11 * length log + 4
   pub headline : (image : Picture) (events : List Event) (ring : ℕ) (input : List ℕ) (harts : List ℕ) (world : Replaced) (unended : Outcome) (shown : Bool) → IsKept image → Plays events harts (started image ring input) world
       → Headline image events ring (start_of image input) harts (started image ring input) world unended (delivery_of unended shown world)
   pub one_run : (image : Picture) (events : List Event) (ring : ℕ) (input : List ℕ) (hs gs : List ℕ) (u v : Replaced) → IsKept image → Plays events hs (started image ring input) u → Plays events gs (started image ring input) v → u ≡ v
@@ -91,38 +93,55 @@ module _ (laws : Laws) (image : Picture) (input : List ℕ) (said : Words) (kept
   limit_reached r ended.Limit run (is, inl steps) none = inl (subst (λ n. t.limit ≤ n) (sym (reals_are r run)) steps)
   limit_reached r ended.Limit run (is, inr entries) none = inr (subst (λ n. entry_limit ≤ n) (sym (entries_are r)) entries)
 
-  is_record : (ran : Ran) → HasRun t ran → IsRecord t (told ran.recorder) ran.recorder.at (printed (told ran.recorder))
-  is_record ran has =
-      let r = ran.recorder in
-      let back = laws.back t r (fair image input said are) has.run has.paced in
-      record {
-        is = refl;
-        back = back;
-        within = laws.size t r (fair image input said are) has.run has.paced has.entries;
-        again = λ u played.
-            let plays : Plays (told r) played.0 (started t.image t.ring t.input) u = subst (λ es. Plays es played.0 (started t.image t.ring t.input) u) back.same played.1 in
-            laws.one_run t.image (told r) t.ring t.input played.0 (steps_of (told r)) u r.at kept plays (laws.plays (told r) (started t.image t.ring t.input) r.at has.run.made);
-      }
+  module _ (ran : Ran) (has : HasRun t ran) (few : length ran.recorder.at.machine.harts ≤ 64) where
+    abbrev log : List Event
+    log = told ran.recorder
 
-  has_lived : (ran : Ran) → HasRun t ran → HasLived t said (life_with said ran.recorder ran.shares)
-  has_lived ran has =
-      let r = ran.recorder in
-      let plays = laws.plays (told r) (started t.image t.ring t.input) r.at has.run.made in
-      record {
-        world = r.at;
-        plays = plays;
-        delivers = refl;
-        headline = laws.headline t.image (told r) t.ring t.input (steps_of (told r)) r.at (Limit t.limit) said.report kept plays;
-        paced = has.paced;
-        served = has.served;
-        limited = limit_reached r ran.ended has.run has.ends;
-        below = record { steps = has.steps; entries = has.entries };
-        shares = has.shares_sum ∙ sym (reals_are r has.run);
-        kept = is_record ran has;
-        filed = refl;
-      }
+    abbrev start : Replaced
+    start = started t.image t.ring t.input
 
-  pub lived : (ran : Ran) (life : Life) → HasRun t ran → life.delivery ≡ delivery_of (Limit said.limit) said.report ran.recorder.at → life.log ≡ told ran.recorder → life.shares ≡ ran.shares
-      → life.file ≡ option_map (λ name. record { name = name; text = printed life.log }) said.log_name → HasLived t said life
-  lived ran life has delivery log count named =
-      subst (HasLived t said) (sym (life_is said ran.recorder ran.shares life delivery log count named)) (has_lived ran has)
+    few_harts : length (state_at t.image (start_in t) log).harts ≤ 64
+    few_harts = subst (λ n. n ≤ 64) (same_many ran.recorder.at (state_in t log) has.run.related) few
+
+    plays_it : Plays log (steps_of log) start ran.recorder.at
+    plays_it = laws.plays log start ran.recorder.at has.run.made
+
+    few_steps : reals log ≤ 2000000000
+    few_steps = let steps = has.steps in let limit = are.limit.1 in omega (arith, steps, limit, few)
+
+    short : length (printed log) ≤ script_limit
+    short =
+        let text = laws.text t.image (start_in t) t.every log has.paced few_harts in
+        let entries = has.entries in
+        omega (arith, text, entries, few)
+
+    is_record : IsRecord t log ran.recorder.at (printed log)
+    is_record =
+        let back = laws.back t.image (start_in t) t.every log kept has.paced few_harts few_steps in
+        record {
+          is = refl;
+          back = back;
+          within = short;
+          again = λ u played.
+              let plays : Plays log played.0 start u = subst (λ es. Plays es played.0 start u) back.same played.1 in
+              laws.one_run t.image log t.ring t.input played.0 (steps_of log) u ran.recorder.at kept plays plays_it;
+        }
+
+    has_lived : HasLived t said (life_with said ran.recorder ran.shares)
+    has_lived = record {
+      world = ran.recorder.at;
+      plays = plays_it;
+      delivers = refl;
+      headline = laws.headline t.image log t.ring t.input (steps_of log) ran.recorder.at (Limit t.limit) said.report kept plays_it;
+      paced = has.paced;
+      served = has.served;
+      limited = limit_reached ran.recorder ran.ended has.run has.ends;
+      below = record { steps = has.steps; entries = has.entries };
+      shares = has.shares_sum ∙ sym (reals_are ran.recorder has.run);
+      kept = is_record;
+      filed = refl;
+    }
+
+    pub lived : (life : Life) → life.delivery ≡ delivery_of (Limit said.limit) said.report ran.recorder.at → life.log ≡ told ran.recorder → life.shares ≡ ran.shares
+        → life.file ≡ option_map (λ name. record { name = name; text = printed life.log }) said.log_name → HasLived t said life
+    lived life delivery log_is count named = subst (HasLived t said) (sym (life_is said ran.recorder ran.shares life delivery log_is count named)) has_lived

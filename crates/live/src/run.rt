@@ -99,6 +99,8 @@ fn run_image<G: Pace<()> + Sync, R: Threads + Wait + Sync>(
         said.limit,
         pace,
     )?;
+    ran.recorder.world().kept();
+    let _made = ran.recorder.world().made();
     life_of(alloc, ran, said)
 }
 
