@@ -1,5 +1,5 @@
 -- What a run of threads gives is what the words ask for.
-use Rattle.std.proofs.Common.{◌≡◌, ◌⊎◌, inl, inr, ◌≤◌, ℕ, ◌+◌, ◌*◌, arith, Bool, true, false, List, length, map, Option, Some, None, refl, ap, sym, subst, ◌∙◌}
+use Rattle.std.proofs.Common.{◌≡◌, ◌⊎◌, inl, inr, ◌≤◌, ℕ, ◌+◌, ◌*◌, arith, Bool, true, false, List, length, map, Option, Some, None, Result, Ok, Err, IfOk, refl, ap, sym, subst, ◌∙◌}
 use Rattle.std.proofs.lemmas.List.{length-map}
 use Rattle.std.specs.Prelude.{is_some}
 use Rattle.std.specs.Option.{option_map}
@@ -31,6 +31,7 @@ use Rattle.live_threads.specs.Ran.{HasRun}
 use Rattle.live_threads.specs.declared.run.Ran.{Ran}
 use Rattle.live_words.specs.Words.{AreInRange}
 use Rattle.live_words.specs.declared.words.Words.{Words}
+use Rattle.oc_base.specs.declared.fault.NoMemory.{NoMemory}
 use Rattle.live.specs.declared.life.Life.{Life}
 use Rattle.live.specs.declared.life.RecordFile.{RecordFile}
 use Rattle.live.specs.Lives.{ReachesLimit, StaysBelow, HasLived}
@@ -142,6 +143,12 @@ module _ (laws : Laws) (image : Picture) (input : List ℕ) (said : Words) (kept
       filed = refl;
     }
 
-    pub lived : (life : Life) → life.delivery ≡ delivery_of (Limit said.limit) said.report ran.recorder.at → life.log ≡ told ran.recorder → life.shares ≡ ran.shares
+    lived : (life : Life) → life.delivery ≡ delivery_of (Limit said.limit) said.report ran.recorder.at → life.log ≡ told ran.recorder → life.shares ≡ ran.shares
         → life.file ≡ option_map (λ name. record { name = name; text = printed life.log }) said.log_name → HasLived t said life
     lived life delivery log_is count named = subst (HasLived t said) (sym (life_is said ran.recorder ran.shares life delivery log_is count named)) has_lived
+
+    -- where there was room for it
+    pub lived_if : (result : Result Life NoMemory) → IfOk result (λ l. l.delivery ≡ delivery_of (Limit said.limit) said.report ran.recorder.at) → IfOk result (λ l. l.log ≡ told ran.recorder) → IfOk result (λ l. l.shares ≡ ran.shares)
+        → IfOk result (λ l. l.file ≡ option_map (λ name. record { name = name; text = printed l.log }) said.log_name) → IfOk result (HasLived t said)
+    lived_if (Ok life) delivery log_is count named = lived life delivery log_is count named
+    lived_if (Err full) delivery log_is count named = tt
