@@ -1,5 +1,5 @@
 -- What a run of threads gives is what the words ask for.
-use Rattle.std.proofs.Common.{◌≡◌, ◌⊎◌, inl, inr, ◌≤◌, ℕ, ◌+◌, ◌*◌, arith, Bool, true, false, List, length, map, Option, Some, None, Result, Ok, Err, IfOk, refl, ap, sym, subst, ◌∙◌}
+use Rattle.std.proofs.Common.{◌≡◌, inl, inr, ◌≤◌, ℕ, ◌+◌, ◌*◌, arith, Bool, false, List, length, Some, Result, Ok, Err, IfOk, refl, ap, sym, subst, ◌∙◌}
 use Rattle.std.proofs.lemmas.List.{length-map}
 use Rattle.std.specs.Prelude.{is_some}
 use Rattle.std.specs.Option.{option_map}
@@ -14,7 +14,6 @@ use Rattle.pacing.specs.Clocks.{reals}
 use Rattle.pacing.specs.Limits.{entry_limit}
 use Rattle.pacing.specs.Logs.{steps_of, state_at}
 use Rattle.pacing.specs.Pacing.{Paced}
-use Rattle.report.specs.declared.writing.Delivery.{Delivery}
 use Rattle.recorder.specs.Recording.{Recorded}
 use Rattle.world.specs.Worlds.{Replaced, started}
 use Rattle.run_book.specs.Booked.{Ends}
@@ -25,7 +24,7 @@ use Rattle.run_book.specs.Told.{as_told, told, MakesAll}
 use Rattle.run_book.specs.declared.ended.Ended.{Ended}
 use Rattle.run_book.specs.declared.ended.Ended.TheVariants as ended
 use Rattle.delivered.specs.Deliveries.{delivery_of}
-use Rattle.delivered.specs.Events.{Plays, Played}
+use Rattle.delivered.specs.Events.{Plays}
 use Rattle.delivered.specs.Headline.{Headline}
 use Rattle.live_threads.specs.Ran.{HasRun}
 use Rattle.live_threads.specs.declared.run.Ran.{Ran}
@@ -33,8 +32,7 @@ use Rattle.live_words.specs.Words.{AreInRange}
 use Rattle.live_words.specs.declared.words.Words.{Words}
 use Rattle.oc_base.specs.declared.fault.NoMemory.{NoMemory}
 use Rattle.live.specs.declared.life.Life.{Life}
-use Rattle.live.specs.declared.life.RecordFile.{RecordFile}
-use Rattle.live.specs.Lives.{ReachesLimit, StaysBelow, HasLived}
+use Rattle.live.specs.Lives.{ReachesLimit, HasLived}
 use Rattle.live.specs.Records.{script_limit, IsRecord}
 
 -- the laws that this rests on

@@ -1,5 +1,5 @@
 -- No step of the original machine ends a run for want of events, or at a limit.
-use Rattle.std.proofs.Common.{◌≡◌, ℕ, Bool, true, false, List, [], ◌∷◌, Option, Some, None}
+use Rattle.std.proofs.Common.{ℕ, Bool, true, false, List, [], ◌∷◌, Option, Some, None}
 use Rattle.std.specs.Prelude.{not, is_some, ◌%◌, ◌==◌, ◌&&◌, if◌then◌else◌}
 use Rattle.std.specs.List.{list_any, list_all}
 use Rattle.rv_isa.specs.Decoded.{decoded}
@@ -15,8 +15,8 @@ use Rattle.hart.specs.Effects.{effect_of, answer_of}
 use Rattle.guest_sys.specs.declared.effect.Reply.{Reply}
 use Rattle.guest_sys.specs.declared.effect.Reply.TheVariants as reply
 use Rattle.machine.specs.declared.outcome.Outcome.{Outcome}
-use Rattle.machine.specs.declared.outcome.Outcome.TheVariants.{Exit, Trap, LinkUse, Landing, OutputFull, HartsFull, Stalled, Unfinished, Limit}
-use Rattle.machine.specs.Harts.{has_ended, is_stalled, hart_in, written_by}
+use Rattle.machine.specs.declared.outcome.Outcome.TheVariants.{Trap, Landing, Stalled, Unfinished, Limit}
+use Rattle.machine.specs.Harts.{has_ended, is_stalled, hart_in}
 use Rattle.machine.specs.States.{State}
 use Rattle.machine.specs.Steps.{ended, jumped_unless, fault_of_jump, place_of, end_by, harts_after, call_of, called, by_answer, affected, after_effect, is_indirect, on_instr, on_fetched, settled, can_step, step_with, original_step, original_run}
 

@@ -1,5 +1,5 @@
 -- What `live` promises follows from what it decided and wrote.
-use Rattle.std.proofs.Common.{◌≡◌, ◌≢◌, ◌⊎◌, inl, inr, ℕ, zero, suc, List, [], ◌∷◌, ◌++◌, take, length, Option, Some, None, Result, Ok, Err, refl, ap, sym, subst, ◌∙◌, arith}
+use Rattle.std.proofs.Common.{◌≡◌, ◌≢◌, ◌⊎◌, inl, inr, ℕ, zero, suc, List, [], ◌∷◌, take, length, Option, Some, None, Result, Ok, Err, refl, ap, sym, subst, ◌∙◌, arith}
 use Rattle.std.proofs.lemmas.List.{take_all}
 use Rattle.std.specs.Option.{ForSome}
 use Rattle.std.specs.Prelude.{is_some}
@@ -8,7 +8,7 @@ use Rattle.oc_base.proofs.Told.{gained-gained}
 use Rattle.top_call.specs.Call.{Decided, DecidesBy, Delivered, Written}
 use Rattle.top_call.specs.Outside.{Outside, Told}
 use Rattle.top_call.specs.Reading.{input_name, given_by, FileRead, InputRead}
-use Rattle.top_call.specs.Writing.{AllWritten, WriteFailed}
+use Rattle.top_call.specs.Writing.{WriteFailed}
 use Rattle.top_call.specs.declared.reading.Unread.{Unread}
 use Rattle.top_call.specs.declared.reading.Unread.TheVariants as unread
 use Rattle.top_call.proofs.Called.{Told_of, told_whole, told_fault, told_full, Along, Frame, frame, asked_part, decided_only, told_of, settles, all_fail_once, asked_it, asked_for, last_asked}
@@ -29,7 +29,7 @@ use Rattle.live_words.specs.Words.{words_of}
 use Rattle.live_words.specs.declared.words.Words.{Words}
 use Rattle.live.specs.declared.life.Life.{Life}
 use Rattle.live.specs.declared.lived.Lived.{Lived}
-use Rattle.live.specs.Decision.{program_limit, Asked, reading_by, reading_for, reading_of, recorded_as, named, names_of, terms_of, IsLife, Lives, bad_program, ran, live, Decides, AsksFor}
+use Rattle.live.specs.Decision.{program_limit, Asked, reading_for, reading_of, named, names_of, IsLife, Lives, bad_program, ran, live, AsksFor}
 use Rattle.live.specs.Ending.{writes_of, answer_of, unwritten_of, unlived, lived_ending}
 use Rattle.live.specs.Lives.{ReachesLimit}
 use Rattle.live.specs.Promise.{Filed, IsOf, AnswersRun, IsLifeOf, AtLimit, Cause, OnlyFile, record_name, IsRefusal, Unreported, Promise}

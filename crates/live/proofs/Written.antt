@@ -7,12 +7,10 @@ use Rattle.top_call.specs.Call.{Written, EndsWith}
 use Rattle.top_call.specs.Outside.{Outside}
 use Rattle.top_call.specs.Writing.{Write, to_out, to_err, to_file, Whole, Broken, AllWritten, WriteFailed, Wrote, WroteAll}
 use Rattle.top_call.proofs.Called.{gained_none}
-use Rattle.report.specs.Answer.{line_of}
-use Rattle.report.specs.Cause.{err_of, answer_by, run_ending}
+use Rattle.report.specs.Cause.{err_of, run_ending}
 use Rattle.report.specs.declared.answer.Answer.{Answer}
 use Rattle.report.specs.declared.answer.Ended.{Ended}
 use Rattle.report.specs.declared.answer.Ended.TheVariants.{Ran, Usage, ReadFault, TooLong, Program, Script, WriteFault, NoMemory}
-use Rattle.report.specs.declared.writing.Delivery.{Delivery}
 use Rattle.live.specs.declared.life.Life.{Life}
 use Rattle.live.specs.declared.life.RecordFile.{RecordFile}
 use Rattle.live.specs.declared.lived.Lived.{Lived}

@@ -1,5 +1,5 @@
 -- What a call that runs a program by threads writes and answers after a decision.
-use Rattle.std.specs.Prelude.{ℕ, List, [], ◌∷◌, ◌++◌, Option, Some, None, Result, Ok, Err}
+use Rattle.std.specs.Prelude.{List, [], ◌∷◌, ◌++◌, Option, Some, None, Result, Ok, Err}
 use Rattle.top_call.specs.Call.{Ending}
 use Rattle.top_call.specs.Writing.{Write, to_out, to_err, to_file}
 use Rattle.report.specs.Answer.{line_of}

@@ -1,5 +1,5 @@
 -- What `live` promises of its words, of what is known of files, input and outputs before it and after it, and of its answer.
-use Rattle.std.specs.Prelude.{◌≡◌, ◌≢◌, ◌⊎◌, ℕ, List, [], Option, Some, None, Result, Ok}
+use Rattle.std.specs.Prelude.{◌≡◌, ◌≢◌, ◌⊎◌, ℕ, List, [], Option, Some, None}
 use Rattle.std.specs.Option.{ForSome}
 use Rattle.oc_base.specs.Outside.{Disk, Rose, RoseAtMost, gained, GainedPart, LostPart, TakeFailed, HasNow, SameElsewhere}
 use Rattle.top_call.specs.Call.{Settled, Delivered}
@@ -8,11 +8,9 @@ use Rattle.top_call.specs.Reading.{input_name}
 use Rattle.machine.specs.declared.outcome.Outcome.{Outcome}
 use Rattle.machine.specs.declared.outcome.Outcome.TheVariants.{Unfinished, Limit}
 use Rattle.sched_log.specs.declared.event.Event.{Event}
-use Rattle.sched_log.specs.declared.fault.ScriptFault.{ScriptFault}
 use Rattle.pacing.specs.Clocks.{reals}
 use Rattle.report.specs.Answer.{status_of}
 use Rattle.report.specs.Cause.{err_of}
-use Rattle.report.specs.declared.answer.Answer.{Answer}
 use Rattle.report.specs.declared.answer.Ended.{Ended}
 use Rattle.report.specs.declared.answer.Ended.TheVariants.{Ran, Usage, ReadFault, Script, WriteFault}
 use Rattle.live_words.specs.Words.{words_of}
@@ -20,7 +18,7 @@ use Rattle.live_words.specs.declared.words.Words.{Words}
 use Rattle.live.specs.declared.life.Life.{Life}
 use Rattle.live.specs.declared.life.RecordFile.{RecordFile}
 use Rattle.live.specs.declared.lived.Lived.{Lived}
-use Rattle.live.specs.Decision.{Asked, live, reading_of, names_of, Decides, AsksFor, IsLife}
+use Rattle.live.specs.Decision.{Asked, live, reading_of, names_of, AsksFor, IsLife}
 use Rattle.live.specs.Lives.{ReachesLimit}
 
 -- The file of the record holds it now, if there is one, and every other file has what it had.

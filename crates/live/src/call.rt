@@ -81,14 +81,7 @@ fn decide<F: Files, I: Source, G: Pace<()> + Sync, R: Threads + Wait + Sync>(
 /// The answer has the report of a run, written or not, and the log of the run, of which the record is the text: as a script for the same
 /// program with the same input, region and ring it comes to the same end. On every refusal only the last line is written; to run out of
 /// memory is such a refusal.
-pub fn live<
-    F: Files,
-    I: Source,
-    O: Sink,
-    E: Sink,
-    G: Pace<()> + Sync,
-    R: Threads + Wait + Sync,
->(
+pub fn live<F: Files, I: Source, O: Sink, E: Sink, G: Pace<()> + Sync, R: Threads + Wait + Sync>(
     rt: &R,
     alloc: Global,
     words: &[String],

@@ -57,7 +57,9 @@ fn life_of(alloc: Global, ran: Ran, said: &Words) -> Result<Life, NoMemory>
     ensures recorded { IfOk result (λ l. l.file ≡ option_map (λ n. record { name = n; text = printed l.log }) said.now.log_name) }
 {
     let Ran {
-        recorder, shares, ..
+        recorder,
+        shares,
+        ..
     } = ran;
     let limit = Outcome::Limit { most: said.limit };
     let delivery = deliver(alloc, recorder.world(), limit, said.report)?;

@@ -1,4 +1,4 @@
-use Rattle.std.proofs.Common.{◌≤◌, subst, ◌∙◌, sym, ap, arith, length, ◌≡◌}
+use Rattle.std.proofs.Common.{◌≤◌, subst, ◌∙◌, sym, ap, length, ◌≡◌}
 use Rattle.world.specs.Worlds.{Replaced}
 use Rattle.live.proofs.Living.{lived_if}
 use Rattle.live.proofs.run.run_image.Goals as goal
