@@ -14,8 +14,7 @@ use relocs::fault::ImageFault;
 use report::answer::{Ended, ProgramFault};
 use std::alloc::Global;
 
-/// The image of a program, with the region that is given or the default one. The first fault of the file, or else of the image, is
-/// reported; it never ends in another way but out of memory.
+/// The image of a program, with the region that is given or the default one. The first fault of the file is reported, or else that of the image.
 pub fn build(alloc: Global, bytes: &[u8], region: Option<Range>) -> Result<Image, Ended>
     requires pages { IfSome region IsPaged }
     ensures image { IfOk result (IsBuilt bytes.now region) }

@@ -89,7 +89,7 @@ RunsTo image text input ring shown (Ok delivery) = (world : Replaced) × IsPlaye
 RunsTo image text input ring shown (Err (Script fault)) = script.fault_of image text ≡ Some fault
 RunsTo image text input ring shown (Err _) = ⊥
 
--- What these bytes deliver.
+-- What these bytes deliver. A run that hasn't ended with the script is unfinished.
 pub data Delivers (given : Given) : Result Delivery Ended → Type 0 where
   bad_program : (fault : ProgramFault) → HasFault given.program given.region fault → Delivers given (Err (Program fault))
   bad_script : (image : Picture) (fault : ScriptFault) → IsBuilt given.program given.region image → script.fault_of image given.script ≡ Some fault → Delivers given (Err (Script fault))
