@@ -38,17 +38,17 @@ fn with_threads<J: Run + Send + Sync, G: Pace<()> + Sync, R: Threads + Wait + Sy
     workers: u32,
     all: Hand<J>,
 ) -> Result<Hand<J>, NoMemory>
-    requires parts { all.share.parts ≡ workers }
+    requires parts { all.parts ≡ workers }
     requires some { 0 < workers }
     requires flags { length refused.now ≡ workers }
-    ensures { IfOk result (λ h. h.share.parts ≡ workers) }
+    ensures { IfOk result (λ h. h.parts ≡ workers) }
 {
     thread::scope(
         thread::scope_env(),
         rt,
         move |scope| -> Result<Hand<J>, NoMemory>
-            requires { (all.share.parts ≡ workers) × (0 < workers) × (length refused.now ≡ workers) }
-            ensures { IfOk result (λ h. h.share.parts ≡ workers) }
+            requires { (all.parts ≡ workers) × (0 < workers) × (length refused.now ≡ workers) }
+            ensures { IfOk result (λ h. h.parts ≡ workers) }
         {
             let mut all = all;
             let mut own = Vec::with_capacity(alloc, workers as usize)?;
@@ -88,9 +88,9 @@ pub fn run_crew<J: Run + Send + Sync, G: Pace<()> + Sync, R: Threads + Wait + Sy
     workers: u32,
     all: Hand<J>,
 ) -> Result<Hand<J>, NoMemory>
-    requires parts { all.share.parts ≡ workers }
+    requires parts { all.parts ≡ workers }
     requires some { 0 < workers }
-    ensures { IfOk result (λ h. h.share.parts ≡ workers) }
+    ensures { IfOk result (λ h. h.parts ≡ workers) }
 {
     let refused = none_refused(alloc, workers)?;
     with_threads(

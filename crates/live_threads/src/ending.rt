@@ -14,8 +14,8 @@ use std::sync::Wait;
 
 /// A section of each worker.
 fn sections<J: Run>(alloc: Global, book: &mut Book<J>, workers: u32, all: &mut Hand<J>)
-    requires { 0 < all.old.share.parts }
-    ensures { all.new.share.parts ≡ all.old.share.parts }
+    requires { 0 < all.old.parts }
+    ensures { all.new.parts ≡ all.old.parts }
 {
     for worker in 0..workers {
         book.section(alloc, worker, all);
@@ -31,10 +31,10 @@ fn end<J: Run, R: Wait>(
     workers: u32,
     all: &mut Hand<J>,
 ) -> Option<Ended>
-    requires { 0 < all.old.share.parts }
+    requires { 0 < all.old.parts }
     ensures spent { IfSome result (λ e. book.new.spent ≡ false) }
     ensures ends { IfSome result (λ e. Ends J.terms.limit book.new.world e) }
-    ensures parts { all.new.share.parts ≡ all.old.share.parts }
+    ensures parts { all.new.parts ≡ all.old.parts }
 {
     for _ in rt.forever() {
         if book.is_spent() {
@@ -57,7 +57,7 @@ pub fn close<J: Run, R: Wait>(
     all: Hand<J>,
 ) -> Result<Ran, NoMemory>
     requires some { 0 < J.parts }
-    requires parts { all.share.parts ≡ J.parts }
+    requires parts { all.parts ≡ J.parts }
     ensures { IfOk result (HasRun J.terms) }
 {
     let mut book = book;

@@ -77,7 +77,7 @@ fn run_book<J: Run + Send + Sync, G: Pace<()> + Sync, R: Threads + Wait + Sync>(
 ) -> Result<Ran, NoMemory>
     requires fair { AreFair J.terms }
     requires workers { workers ≡ J.terms.workers }
-    requires parts { (all.share.parts ≡ J.parts) × (J.parts ≡ workers) }
+    requires parts { (all.parts ≡ J.parts) × (J.parts ≡ workers) }
     ensures { IfOk result (HasRun J.terms) }
 {
     let shared = Shared::of(Desk::of(alloc, book, workers)?);

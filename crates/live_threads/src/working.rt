@@ -21,8 +21,8 @@ fn round<J: Run, G: Pace<()>, R: Wait>(
     number: u64,
     hand: &mut Hand<J>,
 ) -> bool
-    requires { 0 < hand.old.share.parts }
-    ensures { hand.new.share.parts ≡ hand.old.share.parts }
+    requires { 0 < hand.old.parts }
+    ensures { hand.new.parts ≡ hand.old.parts }
 {
     pace.before(worker, number);
     let mut desk = shared.await_hart(rt, workers);
@@ -43,8 +43,8 @@ fn turn<J: Run, G: Pace<()>, R: Wait>(
     number: u64,
     hand: &mut Hand<J>,
 ) -> bool
-    requires { 0 < hand.old.share.parts }
-    ensures { hand.new.share.parts ≡ hand.old.share.parts }
+    requires { 0 < hand.old.parts }
+    ensures { hand.new.parts ≡ hand.old.parts }
 {
     for worker in workers {
         if !round(rt, alloc, shared, pace, workers, *worker, number, hand) {
@@ -63,8 +63,8 @@ pub fn serve<J: Run, G: Pace<()>, R: Wait>(
     workers: &[u32],
     hand: &mut Hand<J>,
 )
-    requires { 0 < hand.old.share.parts }
-    ensures { hand.new.share.parts ≡ hand.old.share.parts }
+    requires { 0 < hand.old.parts }
+    ensures { hand.new.parts ≡ hand.old.parts }
 {
     let mut number = 0u64;
     for _ in rt.forever() {
