@@ -1,6 +1,6 @@
 //! The threads of a run.
 
-ghost use Rattle.std.specs.Prelude.{◌≡◌, ◌<◌, ◌×◌, length, IfOk};
+ghost use Rattle.std.specs.Prelude.{◌≡◌, ◌<◌, length, IfOk};
 
 use crate::desk::Shared;
 use crate::placing::{Chart, place_all};

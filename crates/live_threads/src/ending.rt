@@ -1,6 +1,6 @@
 //! The end of a run, once its threads have ended.
 
-ghost use Rattle.std.specs.Prelude.{◌≡◌, ◌<◌, ◌×◌, false, IfOk, IfSome};
+ghost use Rattle.std.specs.Prelude.{◌≡◌, ◌<◌, false, IfOk, IfSome};
 ghost use Rattle.run_book.specs.Booked.{Ends};
 ghost use Rattle.live_threads.specs.Ran.{HasRun};
 

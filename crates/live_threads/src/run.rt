@@ -1,6 +1,6 @@
 //! A run of threads.
 
-ghost use Rattle.std.specs.Prelude.{◌≡◌, ◌×◌, IfOk};
+ghost use Rattle.std.specs.Prelude.{◌≡◌, IfOk};
 ghost use Rattle.run_book.specs.Terms.{AreFair};
 ghost use Rattle.live_threads.specs.Ran.{HasRun, terms_of};
 
