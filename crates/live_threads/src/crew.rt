@@ -1,6 +1,6 @@
 //! The threads of a run.
 
-ghost use Rattle.std.specs.Prelude.{◌≡◌, ◌<◌, length, IfOk};
+ghost use Rattle.std.specs.Prelude.{◌≡◌, ◌<◌, ◌+◌, length, vec_len, IfOk};
 
 use crate::desk::Shared;
 use crate::placing::{Chart, place_all};
@@ -8,12 +8,12 @@ use crate::working::{serve, work};
 use oc_base::fault::NoMemory;
 use oc_base::pace::Pace;
 use run_book::book::Run;
-use run_book::hand::Hand;
+use run_book::hand::{Hand, Seat};
 use std::alloc::Global;
 use std::sync::Wait;
 use std::sync::atomic::{AtomicBool, Ordering};
 use std::thread;
-use std::thread::Threads;
+use std::thread::{JoinHandle, Threads};
 
 /// For each worker, that it hasn't been refused a thread.
 fn none_refused(alloc: Global, workers: u32) -> Result<Vec<AtomicBool>, NoMemory>
@@ -26,11 +26,26 @@ fn none_refused(alloc: Global, workers: u32) -> Result<Vec<AtomicBool>, NoMemory
     Ok(refused)
 }
 
+/// Waits for threads of workers, and takes their seats in.
+fn gather<J: Run, R: Threads + Wait>(
+    rt: &R,
+    shared: &Shared<J>,
+    children: Vec<JoinHandle<Seat<J>>>,
+    all: &mut Hand<J>,
+)
+    ensures { all.new.parts ≡ all.old.parts + vec_len children }
+{
+    let mut children = children;
+    while let Some(child) = children.pop() {
+        let seat = child.join(rt);
+        shared.desk.lock(rt).book.merge(all, seat.hand);
+    }
+}
+
 /// Starts a placer and the workers but worker 0, whose rounds are the caller's, as are those of each worker for which no thread can be
 /// started. It gives the ledger back once they have ended.
 fn with_threads<J: Run + Send + Sync, G: Pace<()> + Sync, R: Threads + Wait + Sync>(
     rt: &R,
-    alloc: Global,
     shared: &Shared<J>,
     pace: &G,
     chart: &Chart<J>,
@@ -51,14 +66,14 @@ fn with_threads<J: Run + Send + Sync, G: Pace<()> + Sync, R: Threads + Wait + Sy
             ensures { IfOk result (λ h. h.parts ≡ workers) }
         {
             let mut all = all;
-            let mut own = Vec::with_capacity(alloc, workers as usize)?;
-            let mut children = Vec::with_capacity(alloc, workers as usize)?;
+            let mut own = Vec::with_capacity(shared.alloc, workers as usize)?;
+            let mut children = Vec::with_capacity(shared.alloc, workers as usize)?;
             own.push_reserved(0);
-            let _ = scope.spawn(move || place_all(rt, alloc, shared, pace, chart));
+            let _ = scope.spawn(move || place_all(rt, shared, pace, chart));
             for worker in 1..workers {
                 let seat = all.seat();
                 let is_refused = &refused[worker as usize];
-                match scope.spawn(move || work(rt, alloc, shared, pace, worker, is_refused, seat)) {
+                match scope.spawn(move || work(rt, shared, pace, worker, is_refused, seat)) {
                     Ok(child) => children.push_reserved(child),
                     Err(back) => {
                         is_refused.store(true, Ordering::SeqCst);
@@ -68,11 +83,8 @@ fn with_threads<J: Run + Send + Sync, G: Pace<()> + Sync, R: Threads + Wait + Sy
                     }
                 }
             }
-            serve(rt, alloc, shared, pace, own.as_slice(), &mut all);
-            while let Some(child) = children.pop() {
-                let seat = child.join(rt);
-                shared.desk.lock(rt).book.merge(&mut all, seat.hand);
-            }
+            serve(rt, shared, pace, own.as_slice(), &mut all);
+            gather(rt, shared, children, &mut all);
             Ok(all)
         },
     )
@@ -81,7 +93,6 @@ fn with_threads<J: Run + Send + Sync, G: Pace<()> + Sync, R: Threads + Wait + Sy
 /// Runs the workers and a placer over a book, until nothing is left to do.
 pub fn run_crew<J: Run + Send + Sync, G: Pace<()> + Sync, R: Threads + Wait + Sync>(
     rt: &R,
-    alloc: Global,
     shared: &Shared<J>,
     pace: &G,
     chart: &Chart<J>,
@@ -92,15 +103,6 @@ pub fn run_crew<J: Run + Send + Sync, G: Pace<()> + Sync, R: Threads + Wait + Sy
     requires some { 0 < workers }
     ensures { IfOk result (λ h. h.parts ≡ workers) }
 {
-    let refused = none_refused(alloc, workers)?;
-    with_threads(
-        rt,
-        alloc,
-        shared,
-        pace,
-        chart,
-        refused.as_slice(),
-        workers,
-        all,
-    )
+    let refused = none_refused(shared.alloc, workers)?;
+    with_threads(rt, shared, pace, chart, refused.as_slice(), workers, all)
 }

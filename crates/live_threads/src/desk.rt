@@ -23,6 +23,7 @@ pub struct News {
 /// The lock, and where threads wait: workers for a hart, the placer for a job.
 #[derive(Drop)]
 pub struct Shared<J: Run> {
+    pub alloc: Global,
     pub desk: Mutex<Desk<J>>,
     harts: Condvar,
     jobs: Condvar,
@@ -80,8 +81,9 @@ impl<J: Run> Desk<J> {
 }
 
 impl<J: Run> Shared<J> {
-    pub fn of(desk: Desk<J>) -> Shared<J> {
+    pub fn of(alloc: Global, desk: Desk<J>) -> Shared<J> {
         Shared {
+            alloc,
             desk: Mutex::new(desk),
             harts: Condvar::new(),
             jobs: Condvar::new(),

@@ -7,7 +7,6 @@ use image::picture::Image;
 use oc_base::pace::Pace;
 use placer::place::place;
 use run_book::book::Run;
-use std::alloc::Global;
 use std::marker::PhantomData;
 use std::sync::Wait;
 use std::thread::Threads;
@@ -34,7 +33,6 @@ impl<J: Run> Chart<J> {
 /// Works the plan of the next job out. It is false once nothing is left to do. Out of memory, the job is dropped.
 fn place_next<J: Run, G: Pace<()>, R: Threads + Wait + Sync>(
     rt: &R,
-    alloc: Global,
     shared: &Shared<J>,
     pace: &G,
     chart: &Chart<J>,
@@ -48,7 +46,7 @@ fn place_next<J: Run, G: Pace<()>, R: Threads + Wait + Sync>(
     };
     drop(desk);
     let number = job.number;
-    let Ok(placed) = place::<J, R>(rt, alloc, &chart.image, job) else {
+    let Ok(placed) = place::<J, R>(rt, shared.alloc, &chart.image, job) else {
         return true;
     };
     shared.desk.lock(rt).book.put_plan(placed);
@@ -59,13 +57,12 @@ fn place_next<J: Run, G: Pace<()>, R: Threads + Wait + Sync>(
 /// Works plans out, until nothing is left to do.
 pub fn place_all<J: Run, G: Pace<()>, R: Threads + Wait + Sync>(
     rt: &R,
-    alloc: Global,
     shared: &Shared<J>,
     pace: &G,
     chart: &Chart<J>,
 ) {
     for _ in rt.forever() {
-        if !place_next(rt, alloc, shared, pace, chart) {
+        if !place_next(rt, shared, pace, chart) {
             return;
         }
     }

@@ -17,9 +17,8 @@ use run_book::ended::Ended;
 use run_book::hand::Hand;
 use std::alloc::Global;
 use std::marker::Brand;
-use std::sync::Wait;
-use std::sync::ledger;
 use std::sync::ledger::Blank;
+use std::sync::{Wait, ledger};
 use std::thread::Threads;
 use world::world::World;
 
@@ -80,8 +79,8 @@ fn run_book<J: Run + Send + Sync, G: Pace<()> + Sync, R: Threads + Wait + Sync>(
     requires parts { (all.parts ≡ J.parts) × (J.parts ≡ workers) }
     ensures { IfOk result (HasRun J.terms) }
 {
-    let shared = Shared::of(Desk::of(alloc, book, workers)?);
-    let all = run_crew(rt, alloc, &shared, pace, chart, workers, all)?;
+    let shared = Shared::of(alloc, Desk::of(alloc, book, workers)?);
+    let all = run_crew(rt, &shared, pace, chart, workers, all)?;
     let Shared { desk, .. } = shared;
     let Desk { book, .. } = desk.into_inner();
     close(rt, alloc, book, workers, all)

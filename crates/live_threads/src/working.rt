@@ -6,14 +6,12 @@ use crate::desk::Shared;
 use oc_base::pace::Pace;
 use run_book::book::Run;
 use run_book::hand::{Hand, Seat};
-use std::alloc::Global;
 use std::sync::Wait;
 use std::sync::atomic::{AtomicBool, Ordering};
 
 /// One round of a worker. The thread waits until one of its workers has a live hart. It is false once nothing is left to do.
 fn round<J: Run, G: Pace<()>, R: Wait>(
     rt: &R,
-    alloc: Global,
     shared: &Shared<J>,
     pace: &G,
     workers: &[u32],
@@ -26,7 +24,7 @@ fn round<J: Run, G: Pace<()>, R: Wait>(
 {
     pace.before(worker, number);
     let mut desk = shared.await_hart(rt, workers);
-    desk.book.section(alloc, worker, hand);
+    desk.book.section(shared.alloc, worker, hand);
     let news = desk.news();
     drop(desk);
     shared.tell(news);
@@ -36,7 +34,6 @@ fn round<J: Run, G: Pace<()>, R: Wait>(
 /// The rounds of one number, of each of these workers in turn. It is false once nothing is left to do.
 fn turn<J: Run, G: Pace<()>, R: Wait>(
     rt: &R,
-    alloc: Global,
     shared: &Shared<J>,
     pace: &G,
     workers: &[u32],
@@ -47,7 +44,7 @@ fn turn<J: Run, G: Pace<()>, R: Wait>(
     ensures { hand.new.parts ≡ hand.old.parts }
 {
     for worker in workers {
-        if !round(rt, alloc, shared, pace, workers, *worker, number, hand) {
+        if !round(rt, shared, pace, workers, *worker, number, hand) {
             return false;
         }
     }
@@ -57,7 +54,6 @@ fn turn<J: Run, G: Pace<()>, R: Wait>(
 /// Makes the rounds of these workers, until nothing is left to do.
 pub fn serve<J: Run, G: Pace<()>, R: Wait>(
     rt: &R,
-    alloc: Global,
     shared: &Shared<J>,
     pace: &G,
     workers: &[u32],
@@ -68,7 +64,7 @@ pub fn serve<J: Run, G: Pace<()>, R: Wait>(
 {
     let mut number = 0u64;
     for _ in rt.forever() {
-        if !turn(rt, alloc, shared, pace, workers, number, hand) {
+        if !turn(rt, shared, pace, workers, number, hand) {
             return;
         }
         number = number.wrapping_add(1);
@@ -78,7 +74,6 @@ pub fn serve<J: Run, G: Pace<()>, R: Wait>(
 /// A worker's thread. Where no thread could be started for it, it gives its seat back at once.
 pub fn work<J: Run, G: Pace<()>, R: Wait>(
     rt: &R,
-    alloc: Global,
     shared: &Shared<J>,
     pace: &G,
     worker: u32,
@@ -89,6 +84,6 @@ pub fn work<J: Run, G: Pace<()>, R: Wait>(
         return seat;
     }
     let Seat { mut hand } = seat;
-    serve(rt, alloc, shared, pace, &[worker], &mut hand);
+    serve(rt, shared, pace, &[worker], &mut hand);
     Seat::of(hand)
 }

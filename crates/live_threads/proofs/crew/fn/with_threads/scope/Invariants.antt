@@ -5,9 +5,3 @@ abbrev pub invariant-loop-worker : goal.invariant-loop-worker
 invariant-loop-worker g l =
     (l.all.parts + vec_len l.children ≡ l.workers) × (vec_len l.children + 1 ≤ l.worker) × (vec_len l.own ≤ l.worker)
     × (l.workers ≤ vec_capacity l.children) × (l.workers ≤ vec_capacity l.own)
-
-abbrev pub invariant-loop-child : goal.invariant-loop-child
-invariant-loop-child g l = l.all.parts + vec_len l.children ≡ l.initial.all.parts + vec_len l.initial.children
-
-abbrev pub decreases-loop-child : goal.decreases-loop-child
-decreases-loop-child g l = vec_len l.children
