@@ -94,7 +94,7 @@ pub fn run<G: Pace<()> + Sync, R: Threads + Wait + Sync>(
         out: out.held().to_vec(alloc)?,
         err: err.held().to_vec(alloc)?,
         record: files.file("record").unwrap_or(&[]).to_vec(alloc)?,
-        log: lived.log,
+        log: lived.log.into_vec(),
         shares: lived.shares,
     })
 }
