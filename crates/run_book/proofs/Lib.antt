@@ -7,3 +7,4 @@ pub mod Books
 pub mod Attempts
 pub mod Runnings
 pub mod Opened
+pub mod Rows
