@@ -8,3 +8,5 @@ pub mod Attempts
 pub mod Runnings
 pub mod Opened
 pub mod Rows
+pub mod Closed
+pub mod Tellings
