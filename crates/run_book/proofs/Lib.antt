@@ -10,3 +10,4 @@ pub mod Opened
 pub mod Rows
 pub mod Closed
 pub mod Tellings
+pub mod Nexts
