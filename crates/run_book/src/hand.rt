@@ -123,12 +123,7 @@ fn count<J: Run>(total: &mut ledger::Book<J>, mine: &mut Counted<J>, n: u64)
 }
 
 /// Takes another's share in. The ledger has counted so many steps in all.
-fn add_up<J: Run>(
-    total: &mut ledger::Book<J>,
-    real: u64,
-    mine: &mut Counted<J>,
-    other: Counted<J>,
-)
+fn add_up<J: Run>(total: &mut ledger::Book<J>, real: u64, mine: &mut Counted<J>, other: Counted<J>)
     requires { total.old.total ≡ real }
     ensures total { total.new.total ≡ total.old.total }
     ensures parts { mine.new.share.parts ≡ mine.old.share.parts + other.share.parts }
