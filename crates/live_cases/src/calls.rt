@@ -9,8 +9,9 @@ use oc_base::pace::Pace;
 use play::call::play;
 use sched_log::event::Event;
 use std::alloc::Global;
+use std::sync::Wait;
 use std::test::Fail;
-use std::thread::{Threads, Wait};
+use std::thread::Threads;
 
 /// What a call came to.
 #[derive(Drop)]
@@ -127,4 +128,12 @@ pub fn told(alloc: Global, seen: &Seen) -> Result<Vec<u8>, Fail> {
 /// Whether a call came to what a row wants, with `/` for a newline.
 pub fn is_told(alloc: Global, seen: &Seen, wanted: &str) -> Result<bool, Fail> {
     Ok(told(alloc, seen)? == with_newlines(alloc, wanted)?)
+}
+
+/// Fails where something isn't so, and says what.
+pub fn must(holds: bool, what: &'static str) -> Result<(), Fail> {
+    if holds {
+        return Ok(());
+    }
+    Err(Fail::new(what))
 }
