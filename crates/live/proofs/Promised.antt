@@ -29,7 +29,7 @@ use Rattle.live_words.specs.Words.{words_of}
 use Rattle.live_words.specs.declared.words.Words.{Words}
 use Rattle.live.specs.declared.life.Life.{Life}
 use Rattle.live.specs.declared.lived.Lived.{Lived}
-use Rattle.live.specs.Decision.{program_limit, Asked, reading_for, reading_of, named, names_of, IsLife, Lives, bad_program, ran, live, AsksFor}
+use Rattle.live.specs.Decision.{program_limit, Asked, reading_for, reading_of, named, names_of, read_names, read_of, IsLife, Lives, bad_program, ran, live, AsksFor}
 use Rattle.live.specs.Ending.{writes_of, answer_of, unwritten_of, unlived, lived_ending}
 use Rattle.live.specs.Lives.{ReachesLimit}
 use Rattle.live.specs.Promise.{Filed, IsOf, AnswersRun, IsLifeOf, AtLimit, Cause, OnlyFile, record_name, IsRefusal, Unreported, Promise}
@@ -115,11 +115,6 @@ life_at (Some said) a b life (inr (program, c, x, inr (input, f, i, (same, inl i
 }
 
 -- ---- the names that the files were asked for
-
--- what is read
-abbrev read_names : Option Words → List (List ℕ)
-read_names None = []
-read_names (Some said) = said.program ∷ []
 
 along : (w : Option Words) → Along live (read_names w) (reading_for w)
 along None = refl
@@ -368,6 +363,17 @@ module _ (words : List (List ℕ)) (before after : Outside) where
       let kept = kept_frame (Err ended) read decided in
       (ap (λ (x : Outside). x.disk) leaves ∙ kept.disk, ap (λ (x : Outside). x.out) leaves ∙ kept.out, ap (λ (x : Outside). x.puts) leaves ∙ kept.puts)
 
+  -- a refusal asks for what is read alone
+  refused_part : (ended : Ended) (r : Outside) → Decided live (reading_of words) before r (Err ended) → OnlyErr r after → GainedPart before.asked after.asked (read_of words)
+  refused_part ended r decided leaves =
+      subst (λ told. GainedPart before.asked told (read_of words)) (sym (ap (λ (x : Outside). x.asked) leaves)) (asked_part live (read_of words) (reading_of words) before r (Err ended) (along (words_of words)) decided)
+
+  read_alone : (lived : Lived) → EndedAs words before after lived → IsRefusal lived.answer.ended → GainedPart before.asked after.asked (read_of words)
+  read_alone lived (is_run life r decided written is) refusal = absurd (subst IsRefusal (ended_is lived (answer_of (Ok life)) is) refusal)
+  read_alone lived (is_broken life r decided broken is) refusal = absurd (subst IsRefusal (ended_is lived (unwritten_of (Ok life)) is) refusal)
+  read_alone lived (is_unsaid ended r decided leaves rose is) refusal = absurd (subst IsRefusal (ended_is lived (unlived (answer_by WriteFault [])) is) refusal)
+  read_alone lived (is_refused ended r decided leaves is) refusal = refused_part ended r decided leaves
+
   -- ---- the log and the count
   unlogged_of : (lived : Lived) → EndedAs words before after lived → IsRefusal lived.answer.ended → lived.log ≡ []
   unlogged_of lived (is_run life read decided written is) refusal = absurd (subst IsRefusal (ended_is lived (answer_of (Ok life)) is) refusal)
@@ -430,6 +436,7 @@ promised words before after lived m =
       written = m;
       devices = record {
         asked = asked_of words before after lived ended;
+        read = read_alone words before after lived ended;
         disk = disk_of words before after lived ended;
         unwritten = untouched words before after lived ended;
         input = once.left;

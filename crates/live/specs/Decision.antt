@@ -51,6 +51,14 @@ named (Some said) = said.program ∷ recorded_as said.log_name
 abbrev pub names_of : (words : List (List ℕ)) → List (List ℕ)
 names_of words = named (words_of words)
 
+-- of them the program's alone is read
+abbrev pub read_names : Option Words → List (List ℕ)
+read_names None = []
+read_names (Some said) = said.program ∷ []
+
+abbrev pub read_of : (words : List (List ℕ)) → List (List ℕ)
+read_of words = read_names (words_of words)
+
 -- the terms of the run of an image
 abbrev pub terms_of : Picture → Asked → Terms
 terms_of image asked = record {

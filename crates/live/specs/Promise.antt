@@ -18,7 +18,7 @@ use Rattle.live_words.specs.declared.words.Words.{Words}
 use Rattle.live.specs.declared.life.Life.{Life}
 use Rattle.live.specs.declared.life.RecordFile.{RecordFile}
 use Rattle.live.specs.declared.lived.Lived.{Lived}
-use Rattle.live.specs.Decision.{Asked, live, reading_of, names_of, AsksFor, IsLife}
+use Rattle.live.specs.Decision.{Asked, live, reading_of, names_of, read_of, AsksFor, IsLife}
 use Rattle.live.specs.Lives.{ReachesLimit}
 
 -- The file of the record holds it now, if there is one, and every other file has what it had.
@@ -91,6 +91,7 @@ IsRefusal _ = Unit {0}
 -- a first part. Each device fails once at most, and one that can't fail doesn't.
 pub record Devices (words : List (List ℕ)) (before after : Outside) (ended : Ended) : Type 0 where
   pub asked : GainedPart before.asked after.asked (names_of words)
+  pub read : IsRefusal ended → GainedPart before.asked after.asked (read_of words)
   pub disk : OnlyFile (record_name (words_of words)) before.disk after.disk
   pub unwritten : IsRefusal ended → (after.disk ≡ before.disk) × (after.out ≡ before.out) × (after.puts ≡ before.puts)
   pub input : LostPart before.left after.left
