@@ -41,7 +41,7 @@ fn place_next<J: Run, G: Pace<()>, R: Threads + Wait + Sync>(
     if desk.book.is_done() {
         return false;
     }
-    let Some(job) = desk.book.take_job() else {
+    let Some(job) = desk.book.take_job(shared.alloc) else {
         return true;
     };
     drop(desk);
