@@ -101,7 +101,12 @@ pub fn run<G: Pace<()> + Sync, R: Threads + Wait + Sync>(
 }
 
 /// What `play` of a program and a script writes to its first output.
-pub fn played(alloc: Global, program: Vec<u8>, script: Vec<u8>, more: &str) -> Result<Vec<u8>, Fail> {
+pub fn played(
+    alloc: Global,
+    program: Vec<u8>,
+    script: Vec<u8>,
+    more: &str,
+) -> Result<Vec<u8>, Fail> {
     let text = format!(in alloc; "p script {more}")?;
     let words = words_of(alloc, &text)?;
     let mut files = Vec::new(alloc);

@@ -33,7 +33,15 @@ fn ended<R: Threads + Wait + Sync>(
     case: &str,
 ) -> Result<Seen, Fail> {
     let (words, input) = case.split_once("< ").unwrap_or((case, ""));
-    run(rt, alloc, program(alloc, guest)?, words, input, ("", ""), &NoPace)
+    run(
+        rt,
+        alloc,
+        program(alloc, guest)?,
+        words,
+        input,
+        ("", ""),
+        &NoPace,
+    )
 }
 
 /// Fails at the first row that comes to something else than is wanted.

@@ -27,8 +27,14 @@ fn met<R: Threads + Wait + Sync>(
 fn two_workers_are_two_threads(rt: HostRuntime) -> Result<(), Fail> {
     let alloc = rt.alloc();
     let meeting = Meeting::of(
-        Place::Before { worker: 0, round: 0 },
-        Place::Before { worker: 1, round: 0 },
+        Place::Before {
+            worker: 0,
+            round: 0,
+        },
+        Place::Before {
+            worker: 1,
+            round: 0,
+        },
     );
     let seen = met(&rt, alloc, "p --workers 2", &meeting)?;
     must(
@@ -41,7 +47,13 @@ fn two_workers_are_two_threads(rt: HostRuntime) -> Result<(), Fail> {
 fn begins_with_an_attempt(log: &[Event]) -> bool {
     matches!(
         log,
-        [Event::Real { h: 0, .. }, Event::Snap, Event::Retire, Event::Replace, ..]
+        [
+            Event::Real { h: 0, .. },
+            Event::Snap,
+            Event::Retire,
+            Event::Replace,
+            ..
+        ]
     )
 }
 
@@ -49,7 +61,10 @@ fn begins_with_an_attempt(log: &[Event]) -> bool {
 fn a_plan_is_placed_by_a_thread_of_its_own(rt: HostRuntime) -> Result<(), Fail> {
     let alloc = rt.alloc();
     let meeting = Meeting::of(
-        Place::Before { worker: 0, round: 1 },
+        Place::Before {
+            worker: 0,
+            round: 1,
+        },
         Place::Placed { job: 1 },
     );
     let words = "p --workers 1 --every 1 --limit 1000";
@@ -81,7 +96,10 @@ fn a_plan_that_comes_late_is_worked_out_by_a_worker(rt: HostRuntime) -> Result<(
     let alloc = rt.alloc();
     let meeting = Meeting::of(
         Place::Placed { job: 1 },
-        Place::Before { worker: 0, round: 100 },
+        Place::Before {
+            worker: 0,
+            round: 100,
+        },
     );
     let words = "p --workers 1 --every 1000";
     let seen = met(&rt, alloc, words, &meeting)?;

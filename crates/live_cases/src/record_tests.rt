@@ -35,7 +35,11 @@ fn check<R: Threads + Wait + Sync>(rt: &R, alloc: Global, way: &str) -> Result<(
     if !is_told(alloc, &seen, "0|18000/|ocolos: exit 0/")? || seen.shares != reals(&seen.log) {
         return Err(Fail::new(format!(in alloc; "{way}: another end")?));
     }
-    let ring = if way.ends_with("--ring 64") { "--ring 64" } else { "" };
+    let ring = if way.ends_with("--ring 64") {
+        "--ring 64"
+    } else {
+        ""
+    };
     if played(alloc, again, seen.record, ring)? != seen.out {
         return Err(Fail::new(format!(in alloc; "{way}: another output")?));
     }
@@ -54,7 +58,15 @@ fn a_record_plays_again_whoever_serves_the_harts(rt: HostRuntime) -> Result<(), 
 fn a_record_is_the_log_line_by_line(rt: HostRuntime) -> Result<(), Fail> {
     let alloc = rt.alloc();
     let guest = program(alloc, "line")?;
-    let seen = run(&rt, alloc, guest, "p --record record", "", ("", ""), &NoPace)?;
+    let seen = run(
+        &rt,
+        alloc,
+        guest,
+        "p --record record",
+        "",
+        ("", ""),
+        &NoPace,
+    )?;
     must(
         seen.record == with_newlines(alloc, "real 0 8/end/")?,
         "another record",
