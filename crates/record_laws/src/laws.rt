@@ -20,7 +20,7 @@ pub fn plays_law()
 {}
 
 /// The law of a record: a log that keeps the pace, of no more harts and real steps than a script may speak of, asks for what a script can ask
-/// for; its text reads back as the log; and a line of it has 11 bytes at most.
+/// for; its text reads back as the log; and the text has at most 11 bytes an entry, and four for its end.
 pub fn record_law()
     ensures range { (p : Picture) (start : State) (every : ℕ) (log : List Event) → Paced p start every log → length (state_at p start log).harts ≤ hart_limit → reals log ≤ count_limit
         → AreInRange p log }
