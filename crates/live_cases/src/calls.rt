@@ -9,8 +9,9 @@ use oc_base::pace::Pace;
 use play::call::play;
 use sched_log::event::Event;
 use std::alloc::Global;
+use std::sync::Wait;
 use std::test::Fail;
-use std::thread::{Threads, Wait};
+use std::thread::Threads;
 
 /// What a call came to.
 #[derive(Drop)]
@@ -94,13 +95,18 @@ pub fn run<G: Pace<()> + Sync, R: Threads + Wait + Sync>(
         out: out.held().to_vec(alloc)?,
         err: err.held().to_vec(alloc)?,
         record: files.file("record").unwrap_or(&[]).to_vec(alloc)?,
-        log: lived.log,
+        log: lived.log.into_vec(),
         shares: lived.shares,
     })
 }
 
 /// What `play` of a program and a script writes to its first output.
-pub fn played(alloc: Global, program: Vec<u8>, script: Vec<u8>, more: &str) -> Result<Vec<u8>, Fail> {
+pub fn played(
+    alloc: Global,
+    program: Vec<u8>,
+    script: Vec<u8>,
+    more: &str,
+) -> Result<Vec<u8>, Fail> {
     let text = format!(in alloc; "p script {more}")?;
     let words = words_of(alloc, &text)?;
     let mut files = Vec::new(alloc);
@@ -127,4 +133,12 @@ pub fn told(alloc: Global, seen: &Seen) -> Result<Vec<u8>, Fail> {
 /// Whether a call came to what a row wants, with `/` for a newline.
 pub fn is_told(alloc: Global, seen: &Seen, wanted: &str) -> Result<bool, Fail> {
     Ok(told(alloc, seen)? == with_newlines(alloc, wanted)?)
+}
+
+/// Fails where something isn't so, and says what.
+pub fn must(holds: bool, what: &'static str) -> Result<(), Fail> {
+    if holds {
+        return Ok(());
+    }
+    Err(Fail::new(what))
 }

@@ -16,6 +16,7 @@ pub enum Place {
 const TURNS: u32 = 1_000_000_000;
 
 /// Each thread that comes to one of two places says so, and waits until the other has come to its own.
+#[derive(Drop)]
 pub struct Meeting {
     first: Place,
     second: Place,

@@ -1,11 +1,12 @@
 //! Threads that have to meet: workers are threads of their own, and a plan is placed beside the worker that goes on.
 
-use crate::calls::{Seen, is_told, program, run};
+use crate::calls::{Seen, is_told, must, program, run};
 use crate::meeting::{Meeting, Place};
 use sched_log::event::Event;
 use std::alloc::Global;
+use std::sync::Wait;
 use std::test::Fail;
-use std::thread::{Threads, Wait};
+use std::thread::Threads;
 
 /// A run of the guest of one thousand rounds in which two threads meet.
 fn met<R: Threads + Wait + Sync>(
@@ -26,19 +27,33 @@ fn met<R: Threads + Wait + Sync>(
 fn two_workers_are_two_threads(rt: HostRuntime) -> Result<(), Fail> {
     let alloc = rt.alloc();
     let meeting = Meeting::of(
-        Place::Before { worker: 0, round: 0 },
-        Place::Before { worker: 1, round: 0 },
+        Place::Before {
+            worker: 0,
+            round: 0,
+        },
+        Place::Before {
+            worker: 1,
+            round: 0,
+        },
     );
     let seen = met(&rt, alloc, "p --workers 2", &meeting)?;
-    assert!(is_told(alloc, &seen, "0|18000/|ocolos: exit 0/")?);
-    Ok(())
+    must(
+        is_told(alloc, &seen, "0|18000/|ocolos: exit 0/")?,
+        "another end",
+    )
 }
 
 /// A log begins with a visit of hart 0, and a snapshot whose plan is put in place next.
 fn begins_with_an_attempt(log: &[Event]) -> bool {
     matches!(
         log,
-        [Event::Real { h: 0, .. }, Event::Snap, Event::Retire, Event::Replace, ..]
+        [
+            Event::Real { h: 0, .. },
+            Event::Snap,
+            Event::Retire,
+            Event::Replace,
+            ..
+        ]
     )
 }
 
@@ -46,14 +61,19 @@ fn begins_with_an_attempt(log: &[Event]) -> bool {
 fn a_plan_is_placed_by_a_thread_of_its_own(rt: HostRuntime) -> Result<(), Fail> {
     let alloc = rt.alloc();
     let meeting = Meeting::of(
-        Place::Before { worker: 0, round: 1 },
+        Place::Before {
+            worker: 0,
+            round: 1,
+        },
         Place::Placed { job: 1 },
     );
     let words = "p --workers 1 --every 1 --limit 1000";
     let seen = met(&rt, alloc, words, &meeting)?;
-    assert!(is_told(alloc, &seen, "117||ocolos: limit 1000/")?);
-    assert!(begins_with_an_attempt(&seen.log));
-    Ok(())
+    must(
+        is_told(alloc, &seen, "117||ocolos: limit 1000/")?,
+        "another end",
+    )?;
+    must(begins_with_an_attempt(&seen.log), "another beginning")
 }
 
 /// The most visits between a snapshot and its attempt.
@@ -76,11 +96,16 @@ fn a_plan_that_comes_late_is_worked_out_by_a_worker(rt: HostRuntime) -> Result<(
     let alloc = rt.alloc();
     let meeting = Meeting::of(
         Place::Placed { job: 1 },
-        Place::Before { worker: 0, round: 100 },
+        Place::Before {
+            worker: 0,
+            round: 100,
+        },
     );
     let words = "p --workers 1 --every 1000";
     let seen = met(&rt, alloc, words, &meeting)?;
-    assert!(is_told(alloc, &seen, "0|18000/|ocolos: exit 0/")?);
-    assert!(longest_wait(&seen.log) >= 15);
-    Ok(())
+    must(
+        is_told(alloc, &seen, "0|18000/|ocolos: exit 0/")?,
+        "another end",
+    )?;
+    must(longest_wait(&seen.log) >= 15, "no plan was late")
 }

@@ -1,12 +1,13 @@
 //! Records of runs, played again.
 
-use crate::calls::{is_told, played, program, run};
+use crate::calls::{is_told, must, played, program, run};
 use cases::guests::with_newlines;
 use oc_base::pace::NoPace;
 use sched_log::event::Event;
 use std::alloc::Global;
+use std::sync::Wait;
 use std::test::Fail;
-use std::thread::{Threads, Wait};
+use std::thread::Threads;
 
 // Words of runs of the guest of one thousand rounds, which prints 18000 whatever its threads do.
 const WAYS: &str = "\
@@ -34,7 +35,11 @@ fn check<R: Threads + Wait + Sync>(rt: &R, alloc: Global, way: &str) -> Result<(
     if !is_told(alloc, &seen, "0|18000/|ocolos: exit 0/")? || seen.shares != reals(&seen.log) {
         return Err(Fail::new(format!(in alloc; "{way}: another end")?));
     }
-    let ring = if way.ends_with("--ring 64") { "--ring 64" } else { "" };
+    let ring = if way.ends_with("--ring 64") {
+        "--ring 64"
+    } else {
+        ""
+    };
     if played(alloc, again, seen.record, ring)? != seen.out {
         return Err(Fail::new(format!(in alloc; "{way}: another output")?));
     }
@@ -53,7 +58,17 @@ fn a_record_plays_again_whoever_serves_the_harts(rt: HostRuntime) -> Result<(), 
 fn a_record_is_the_log_line_by_line(rt: HostRuntime) -> Result<(), Fail> {
     let alloc = rt.alloc();
     let guest = program(alloc, "line")?;
-    let seen = run(&rt, alloc, guest, "p --record record", "", ("", ""), &NoPace)?;
-    assert!(seen.record == with_newlines(alloc, "real 0 8/end/")?);
-    Ok(())
+    let seen = run(
+        &rt,
+        alloc,
+        guest,
+        "p --record record",
+        "",
+        ("", ""),
+        &NoPace,
+    )?;
+    must(
+        seen.record == with_newlines(alloc, "real 0 8/end/")?,
+        "another record",
+    )
 }

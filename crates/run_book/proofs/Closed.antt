@@ -1,5 +1,5 @@
 -- What a run is like whose book is closed.
-use Rattle.std.proofs.Common.{◌≡◌, ◌≤◌, ◌<◌, ◌+◌, ◌*◌, ℕ, false, length, arith}
+use Rattle.std.proofs.Common.{◌≡◌, ◌≤◌, ◌<◌, ◌+◌, ◌*◌, false, length, arith}
 use Rattle.pacing.specs.Clocks.{reals}
 use Rattle.pacing.specs.Limits.{visit_limit, entry_limit, visit_entries}
 use Rattle.pacing.specs.Pacing.{Paced}

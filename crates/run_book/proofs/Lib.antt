@@ -9,3 +9,5 @@ pub mod Runnings
 pub mod Opened
 pub mod Rows
 pub mod Closed
+pub mod Tellings
+pub mod Nexts

@@ -6,7 +6,6 @@ use Rattle.std.specs.declared.alloc.Global.{Global}
 use Rattle.machine.specs.Steps.{can_step}
 use Rattle.pacing.specs.Limits.{visit_limit}
 use Rattle.pacing.specs.Serving.{Turn}
-use Rattle.placer.specs.declared.placed.Job.{Job}
 use Rattle.recorder.specs.Recording.{Recorded}
 use Rattle.run_book.specs.declared.running.Running.{Running}
 use Rattle.run_book.specs.Terms.{Terms}
@@ -60,22 +59,13 @@ module _ (t : Terms) (total : ℕ) (r : Running) where
   }
 
   -- the numbers of jobs are no part of what is kept
-  pub handed_book : (number : ℕ) (job : Option Job) → IsBook t total r → IsBook t total (record r { number = number; job = job })
-  handed_book number job b = record {
+  pub handed_book : (number : ℕ) (has_job : Bool) → IsBook t total r → IsBook t total (record r { number = number; has_job = has_job })
+  handed_book number has_job b = record {
     terms = record { fair = b.terms.fair; workers = b.terms.workers; every = b.terms.every; limit = b.terms.limit };
     run = b.run;
     sum = b.sum;
     rests = b.rests;
     last = b.last;
-  }
-
-  pub unhanded_book : (number : ℕ) → IsBook t total r → IsBook t total (record r { number = number; spent = true })
-  unhanded_book number b = record {
-    terms = record { fair = b.terms.fair; workers = b.terms.workers; every = b.terms.every; limit = b.terms.limit };
-    run = b.run;
-    sum = b.sum;
-    rests = λ whole. absurd (cc);
-    last = λ whole. absurd (cc);
   }
 
 -- ---- a visit of hart h by a worker, of n steps

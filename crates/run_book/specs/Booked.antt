@@ -1,6 +1,9 @@
 -- What the book behind the lock keeps, and how a run ends. Source: this project.
-use Rattle.std.specs.Prelude.{◌≡◌, ◌≤◌, ◌<◌, ℕ, ◌⊎◌, Bool, false, length, slice_get, Option, Some, None}
+use Rattle.std.specs.Prelude.{◌≡◌, ◌≤◌, ◌<◌, ◌%◌, ℕ, ◌⊎◌, Bool, true, false, length, slice_get, Option, Some, None}
+use Rattle.machine.specs.Harts.{is_live, hart_in}
+use Rattle.machine.specs.States.{State}
 use Rattle.pacing.specs.Limits.{entry_limit}
+use Rattle.placer.specs.Placing.{Answer}
 use Rattle.recorder.specs.Recording.{Recorded}
 use Rattle.run_book.specs.declared.ended.Ended.{Ended}
 use Rattle.run_book.specs.declared.ended.Ended.TheVariants as ended
@@ -9,12 +12,16 @@ use Rattle.run_book.specs.Terms.{Terms, AreFair}
 use Rattle.run_book.specs.Told.{told}
 use Rattle.run_book.specs.Sections.{IsRunOf, IsAmid, IsAtRest, AreLast, IsChosen}
 
--- what a lock lets see of the book: the run so far, and whether being out of memory has ended it
+-- What a lock lets see of the book: the run so far, whether being out of memory has ended it, how many snapshots were taken, whether no
+-- placer has taken the last one yet, and the plan that has come.
 pub record Booked : Type 0 where
   pub world : Recorded
   pub spent : Bool
+  pub number : ℕ
+  pub has_job : Bool
+  pub plan : Option Answer
 
--- what a worker holds of the ledger: so many of its parts, with so many real steps counted
+-- what a worker holds of the ledger: so many parts, and the real steps that it has counted
 pub record Held : Type 0 where
   pub parts : ℕ
   pub made : ℕ
@@ -52,3 +59,15 @@ pub record MayServe (worker h : ℕ) (r : Running) : Type 0 where
 abbrev pub Ends : (limit : ℕ) → Recorded → Ended → Type 0
 Ends limit r (ended.Outcome o) = r.at.machine.outcome ≡ Some o
 Ends limit r ended.Limit = (r.at.machine.outcome ≡ None) × ((limit ≤ r.at.counts.real) ⊎ (entry_limit ≤ length r.journal.entries))
+
+-- memory ran out, or the run has an outcome or has come to a limit
+abbrev pub HasEnded : Running → Type 0
+HasEnded r = (r.spent ≡ true) ⊎ ((e : Ended) × Ends r.limit r.recorder e)
+
+-- nothing is left to do: memory ran out, or the run has ended
+abbrev pub IsDone : (limit : ℕ) → Booked → Type 0
+IsDone limit b = (b.spent ≡ true) ⊎ ((e : Ended) × Ends limit b.world e)
+
+-- one of a worker's harts is live
+abbrev pub HasLive : (workers worker : ℕ) → State → Type 0
+HasLive workers worker s = (h : ℕ) × (h % workers ≡ worker) × (is_live (hart_in s.harts h).status ≡ true)

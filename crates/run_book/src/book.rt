@@ -1,18 +1,18 @@
 //! The book behind the lock, whose world is the run of its own log.
 
-ghost use Rattle.std.specs.Prelude.{◌≡◌, ◌≤◌, ◌<◌, ◌+◌, ◌*◌, true, false, None, IfSome, IfOk, length};
+ghost use Rattle.std.specs.Prelude.{◌≡◌, ◌≢◌, ◌<◌, ◌≤◌, ◌+◌, ◌*◌, true, false, None, Some, IfSome, IfOk, length};
 ghost use Rattle.world.specs.Worlds.{started};
 ghost use Rattle.pacing.specs.Clocks.{reals};
 ghost use Rattle.pacing.specs.Limits.{visit_limit, entry_limit, visit_entries};
 ghost use Rattle.pacing.specs.Pacing.{Paced};
 ghost use Rattle.pacing.specs.Serving.{Served};
-ghost use Rattle.run_book.specs.Booked.{IsBook, Ends};
-ghost use Rattle.run_book.specs.Sections.{FitsNow, GoesOn, IsRunOf};
+ghost use Rattle.run_book.specs.Booked.{IsBook, Ends, IsDone, HasLive};
+ghost use Rattle.run_book.specs.Sections.{FitsNow, IsRunOf, GoesOn};
 ghost use Rattle.run_book.specs.Terms.{AreFair, start_in};
 ghost use Rattle.run_book.specs.Told.{told};
 
 use crate::ended::Ended;
-use crate::hand::{Hand, add_up, audit, count};
+use crate::hand::Hand;
 use crate::running::Running;
 use branch_ring::profile::Profile;
 use oc_base::fault::NoMemory;
@@ -57,7 +57,7 @@ impl<J: Run> Model for Book<J> {
 
     ghost coded = { Prim.hlevel (codes, memory_code) };
 
-    ghost view = { λ b. record { world = b.run.recorder; spent = b.run.spent } };
+    ghost view = { λ b. record { world = b.run.recorder; spent = b.run.spent; number = b.run.number; has_job = b.run.has_job; plan = b.plan } };
 
     ghost invariant = { λ b. IsBook J.terms b.total.total b.run × (J.image ≡ J.terms.image) };
 }
@@ -134,21 +134,32 @@ impl<J: Run> Book<J> {
 
     /// Nothing is left to do.
     pub fn is_done(&self) -> bool
+        ensures done { result ≡ true → IsDone J.terms.limit self.now }
         ensures spent { result ≡ false → self.now.spent ≡ false }
         ensures goes_on { result ≡ false → GoesOn J.terms.limit self.now.world }
     {
         self.run.is_done()
     }
 
-    /// Being out of memory has ended the run.
+    /// Whether being out of memory has ended the run.
     pub fn is_spent(&self) -> bool
         ensures { result ≡ self.now.spent }
     {
         self.run.spent
     }
 
+    /// How the run has ended, unless it goes on. Out of memory isn't told here.
+    pub fn ended(&self) -> Option<Ended>
+        ensures some { IfSome result (Ends J.terms.limit self.now.world) }
+        ensures none { result ≡ None → GoesOn J.terms.limit self.now.world }
+    {
+        self.run.ended()
+    }
+
     /// Whether one of a worker's harts is live.
-    pub fn has_next(&self, worker: u32) -> bool {
+    pub fn has_next(&self, worker: u32) -> bool
+        ensures { result ≡ true → HasLive J.terms.workers worker self.now.world.at.machine }
+    {
         self.run.next(worker).is_some()
     }
 
@@ -157,7 +168,11 @@ impl<J: Run> Book<J> {
         requires { 0 < mine.old.parts }
         ensures parts { mine.new.parts ≡ mine.old.parts }
         ensures made { mine.new.made + self.old.world.at.counts.real ≡ mine.old.made + self.new.world.at.counts.real }
+        ensures done { IsDone J.terms.limit self.old → self.new ≡ self.old }
     {
+        if self.run.is_done() {
+            return;
+        }
         let plan = plan_now(
             &self.run.recorder,
             self.run.every,
@@ -166,20 +181,36 @@ impl<J: Run> Book<J> {
         );
         let made = self.run.section(alloc, worker, plan);
         let _real = self.run.recorder.world().real();
-        count(&mut self.total, mine, made);
+        mine.count(&mut self.total, made);
     }
 
-    pub fn has_job(&self) -> bool {
-        self.run.job.is_some()
+    /// Whether no placer has taken the last snapshot yet.
+    pub fn has_job(&self) -> bool
+        ensures { result ≡ self.now.has_job }
+    {
+        self.run.has_job
     }
 
-    /// The pending snapshot, for a placer.
-    pub fn take_job(&mut self) -> Option<Job> {
-        self.run.job.take()
+    /// The last snapshot, for a placer, unless one has taken it. Out of memory none does: its attempt is made where it is overdue.
+    pub fn take_job(&mut self, alloc: Global) -> Option<Job>
+        ensures job { IfSome result (λ j. (j.number ≡ self.old.number) × (j.profile ≡ self.old.world.at.snapshot)) }
+        ensures none { self.old.has_job ≡ false → result ≡ None }
+        ensures taken { self.new ≡ record self.old { has_job = false } }
+    {
+        if !self.run.has_job {
+            return None;
+        }
+        self.run.has_job = false;
+        let number = self.run.number;
+        let profile = self.run.recorder.world().snapshot().copy(alloc).ok()?;
+        Some(Job { number, profile })
     }
 
     /// Puts a plan where the next lock section finds it, unless it is of an earlier snapshot.
-    pub fn put_plan(&mut self, plan: Placed<J>) {
+    pub fn put_plan(&mut self, plan: Placed<J>)
+        ensures kept { plan.job.number ≡ self.old.number → self.new ≡ record self.old { plan = Some plan } }
+        ensures dropped { plan.job.number ≢ self.old.number → self.new ≡ self.old }
+    {
         if plan.job().number == self.run.number {
             self.plan = Some(plan);
         }
@@ -192,31 +223,23 @@ impl<J: Run> Book<J> {
         ensures same { self.new ≡ self.old }
     {
         let real = self.run.recorder.world().real();
-        add_up(&mut self.total, real, mine, other);
+        mine.add_up(&mut self.total, real, other);
     }
 
-    /// How the run has ended, unless it goes on. Out of memory isn't told here.
-    pub fn ended(&self) -> Option<Ended>
-        ensures some { IfSome result (Ends J.terms.limit self.now.world) }
-        ensures none { result ≡ None → GoesOn J.terms.limit self.now.world }
-    {
-        self.run.ended()
-    }
-
-    /// The run. The hand that holds the whole ledger has counted each of its real steps.
+    /// The run, and its log. The hand that holds the whole ledger has counted each real step.
     pub fn close(self, all: &mut Hand<J>) -> Recorder
         requires { all.old.parts ≡ J.parts }
         ensures world { result ≡ self.world }
-        ensures hand { all.new ≡ all.old }
-        ensures sum { all.new.made ≡ result.at.counts.real }
         ensures run { IsRunOf J.terms result }
-        ensures steps { reals (told result) < J.terms.limit + visit_limit * length result.at.machine.harts }
+        ensures sum { all.new.made ≡ result.at.counts.real }
+        ensures same { all.new ≡ all.old }
         ensures paced { self.spent ≡ false → Paced J.terms.image (start_in J.terms) J.terms.every (told result) }
         ensures served { self.spent ≡ false → Served J.terms.image (start_in J.terms) J.terms.workers (told result) }
         ensures entries { self.spent ≡ false → length (told result) ≤ entry_limit + 1 + visit_entries * length result.at.machine.harts }
+        ensures steps { reals (told result) < J.terms.limit + visit_limit * length result.at.machine.harts }
     {
         let Book { run, mut total, .. } = self;
-        audit(&mut total, all);
+        all.audit(&mut total);
         let Running { recorder, .. } = run;
         recorder
     }

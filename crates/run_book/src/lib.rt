@@ -8,6 +8,7 @@ pub mod attempt;
 pub mod book;
 pub mod ended;
 pub mod hand;
+pub mod laws;
 pub mod next;
 pub mod running;
 pub mod settle;

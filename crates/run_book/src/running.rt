@@ -3,7 +3,7 @@
 ghost use Rattle.std.specs.Prelude.{◌≡◌, ◌<◌, ◌+◌, ℕ, true, false, None, IfOk, IfSome, is_some, replicate};
 ghost use Rattle.world.specs.Worlds.{started};
 ghost use Rattle.recorder.specs.Recording.{HasNoEvents};
-ghost use Rattle.run_book.specs.Booked.{IsBook, IsVisited, MayServe, Ends};
+ghost use Rattle.run_book.specs.Booked.{IsBook, IsVisited, MayServe, Ends, HasEnded};
 ghost use Rattle.run_book.specs.Sections.{FitsNow, GoesOn};
 ghost use Rattle.run_book.specs.Terms.{Terms, AreFair};
 
@@ -13,7 +13,6 @@ use crate::next::next;
 use crate::settle::{Settled, settle};
 use crate::turn::turn;
 use oc_base::fault::NoMemory;
-use placer::placed::Job;
 use plans::plan::Plan;
 use recorder::recorder::Recorder;
 use std::alloc::Global;
@@ -23,7 +22,7 @@ use world::world::World;
 const ENTRY_LIMIT: usize = 16_000_000;
 
 /// A run: its world and log, how many workers serve it, how often a snapshot is due, and where it ends; and the hart that each worker
-/// served last, whether it is out of memory, how many snapshots were taken, and the last one as a job while no placer has taken it.
+/// served last, whether it is out of memory, how many snapshots were taken, and whether no placer has taken the last one yet.
 #[derive(Drop)]
 pub struct Running {
     pub recorder: Recorder,
@@ -33,7 +32,7 @@ pub struct Running {
     pub last: Vec<Option<u32>>,
     pub spent: bool,
     pub number: u64,
-    pub job: Option<Job>,
+    pub has_job: bool,
 }
 
 /// No hart served, for each of so many workers.
@@ -70,7 +69,7 @@ impl Running {
             last,
             spent: false,
             number: 0,
-            job: None,
+            has_job: false,
         })
     }
 
@@ -96,6 +95,7 @@ impl Running {
     pub fn is_done(&self) -> bool
         ensures spent { result ≡ false → self.now.spent ≡ false }
         ensures goes_on { result ≡ false → GoesOn self.now.limit self.now.recorder }
+        ensures done { result ≡ true → HasEnded self.now }
     {
         if self.spent {
             return true;
@@ -148,20 +148,12 @@ impl Running {
         turned.made
     }
 
-    /// The last snapshot becomes a job.
-    fn hand_out(&mut self, alloc: Global)
+    /// The last snapshot is new to the placer.
+    fn hand_out(&mut self)
         ensures { (t : Terms) (total : ℕ) → IsBook t total self.old → IsBook t total self.new }
     {
         self.number = self.number.saturating_add(1);
-        match self.recorder.world().snapshot().copy(alloc) {
-            Ok(profile) => {
-                self.job = Some(Job {
-                    number: self.number,
-                    profile,
-                });
-            }
-            Err(_) => self.spent = true,
-        }
+        self.has_job = true;
     }
 
     /// Does what is due after a visit.
@@ -169,7 +161,7 @@ impl Running {
         ensures { (t : Terms) (total : ℕ) → IsVisited t total self.old → IsBook t total self.new }
     {
         match settle(&mut self.recorder, alloc, self.every) {
-            Ok(Settled::Snapped) => self.hand_out(alloc),
+            Ok(Settled::Snapped) => self.hand_out(),
             Ok(_) => {}
             Err(NoMemory) => self.spent = true,
         }

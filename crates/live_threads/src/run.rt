@@ -1,0 +1,155 @@
+//! A run of threads.
+
+ghost use Rattle.std.specs.Prelude.{◌≡◌, IfOk};
+ghost use Rattle.run_book.specs.Terms.{AreFair};
+ghost use Rattle.live_threads.specs.Ran.{HasRun, terms_of};
+
+use crate::crew::run_crew;
+use crate::desk::{Desk, Shared};
+use crate::ending::close;
+use crate::placing::Chart;
+use image::picture::Image;
+use oc_base::fault::NoMemory;
+use oc_base::pace::Pace;
+use recorder::recorder::Recorder;
+use run_book::book::{Book, Run};
+use run_book::ended::Ended;
+use run_book::hand::Hand;
+use std::alloc::Global;
+use std::marker::Brand;
+use std::sync::ledger::Blank;
+use std::sync::{Wait, ledger};
+use std::thread::Threads;
+use world::world::World;
+
+/// What a run of threads gives: its world with the log, why it has ended, and how many real steps its threads counted.
+#[derive(Drop)]
+pub struct Ran {
+    pub recorder: Recorder,
+    pub ended: Ended,
+    pub shares: u64,
+}
+
+/// The numbers of a run.
+#[derive(Clone, Copy)]
+struct Settings {
+    ring: u32,
+    workers: u32,
+    every: u64,
+    limit: u64,
+}
+
+/// The book of a run before its first step.
+fn opened<J: Run>(
+    alloc: Global,
+    image: Image,
+    input: Vec<u8>,
+    settings: Settings,
+    total: ledger::Book<J>,
+) -> Result<Book<J>, NoMemory>
+    requires fair { AreFair J.terms }
+    requires terms { J.terms ≡ terms_of image input.items settings.ring settings.workers settings.every settings.limit }
+    requires named { J.image ≡ image }
+    requires total { total.total ≡ 0 }
+{
+    let world = World::start(alloc, image, input, settings.ring)?;
+    let book = Book::<J>::open(
+        alloc,
+        world,
+        settings.workers,
+        settings.every,
+        settings.limit,
+        total,
+    )?;
+    Ok(book)
+}
+
+/// Runs the threads over a book, and ends the run.
+fn run_book<J: Run + Send + Sync, G: Pace<()> + Sync, R: Threads + Wait + Sync>(
+    rt: &R,
+    alloc: Global,
+    book: Book<J>,
+    chart: &Chart<J>,
+    workers: u32,
+    pace: &G,
+    all: Hand<J>,
+) -> Result<Ran, NoMemory>
+    requires fair { AreFair J.terms }
+    requires workers { workers ≡ J.terms.workers }
+    requires parts { (all.parts ≡ J.parts) × (J.parts ≡ workers) }
+    ensures { IfOk result (HasRun J.terms) }
+{
+    let shared = Shared::of(alloc, Desk::of(alloc, book, workers)?);
+    let all = run_crew(rt, &shared, pace, chart, workers, all)?;
+    let Shared { desk, .. } = shared;
+    let Desk { book, .. } = desk.into_inner();
+    close(rt, alloc, book, workers, all)
+}
+
+/// A run that `J` names.
+fn run_named<J: Run + Send + Sync, G: Pace<()> + Sync, R: Threads + Wait + Sync>(
+    rt: &R,
+    alloc: Global,
+    blank: Blank,
+    image: Image,
+    input: Vec<u8>,
+    settings: Settings,
+    pace: &G,
+) -> Result<Ran, NoMemory>
+    requires fair { AreFair J.terms }
+    requires terms { J.terms ≡ terms_of image input.items settings.ring settings.workers settings.every settings.limit }
+    requires named { J.image ≡ image }
+    requires ledger { (blank.name ≡ J.name) × (blank.parts ≡ J.parts) × (blank.parts ≡ settings.workers) }
+    ensures { IfOk result (HasRun J.terms) }
+{
+    let chart = Chart::<J>::of(image.copy(alloc)?);
+    let (total, share) = blank.open::<J>();
+    let book = opened::<J>(alloc, image, input, settings, total)?;
+    run_book(
+        rt,
+        alloc,
+        book,
+        &chart,
+        settings.workers,
+        pace,
+        Hand::of(share),
+    )
+}
+
+/// Runs a program on its input by `workers` worker threads, of which worker w serves the harts w, w + workers and so on, visit by visit,
+/// and a placer thread that works the plans of snapshots out. A snapshot is due each `every` real steps, and the run ends with an outcome,
+/// or at the limit of real steps or of entries of the log. Of each hart the last `ring` transfers are kept for the snapshots.
+///
+/// `pace.before` is called before each round of a worker, which makes at most one visit, and `pace.placed` after a plan was put where the
+/// workers find it; no lock is held then. Where a thread can't be started, the calling thread makes its worker's rounds, or there is no
+/// placer: then each attempt is made where it is overdue.
+pub fn run_threads<G: Pace<()> + Sync, R: Threads + Wait + Sync>(
+    rt: &R,
+    alloc: Global,
+    image: Image,
+    input: Vec<u8>,
+    ring: u32,
+    workers: u32,
+    every: u64,
+    limit: u64,
+    pace: &G,
+) -> Result<Ran, NoMemory>
+    requires fair { AreFair (terms_of image input.items ring workers every limit) }
+    ensures { IfOk result (HasRun (terms_of image input.items ring workers every limit)) }
+{
+    let settings = Settings {
+        ring,
+        workers,
+        every,
+        limit,
+    };
+    run_named::<Brand, G, R>(
+        rt,
+        alloc,
+        Blank::new(workers as u64),
+        image,
+        input,
+        settings,
+        pace,
+    )
+}
