@@ -1,5 +1,5 @@
 -- A log that keeps the pace asks for what a script can ask for.
-use Rattle.std.proofs.Common.{◌≡◌, ℕ, ◌+◌, ◌^◌, ◌<◌, ◌≤◌, List, [], ◌∷◌, ◌++◌, length, refl, sym, ap, ◌∙◌, subst, arith}
+use Rattle.std.proofs.Common.{◌≡◌, ℕ, ◌+◌, ◌<◌, ◌≤◌, List, [], ◌∷◌, ◌++◌, length, refl, sym, ap, ◌∙◌, arith}
 use Rattle.std.specs.Prelude.{⊤, sum_by}
 use Rattle.std.specs.List.{AllByRecursion}
 use Rattle.std.proofs.lemmas.Grind.{flat_map-append}
@@ -15,7 +15,7 @@ use Rattle.sched_log.specs.Script.{count}
 use Rattle.sched_log.specs.Ranges.{IsInRange, AreInRange, IsShort}
 use Rattle.pacing.specs.Logs.{steps_in, steps_of, state_at}
 use Rattle.pacing.specs.Clocks.{reals}
-use Rattle.pacing.specs.Pacing.{Paced, VisitFits, IsVisit}
+use Rattle.pacing.specs.Pacing.{Paced, IsVisit}
 use Rattle.pacing.proofs.Clocked.{real_is}
 use Rattle.pacing.proofs.Runs.{made_by_run}
 use Rattle.pacing.proofs.Visits.{was_made}
