@@ -4,10 +4,12 @@ use Rattle.std.proofs.lemmas.List.{length-map}
 use Rattle.std.specs.Prelude.{is_some}
 use Rattle.std.specs.Option.{option_map}
 use Rattle.image.specs.Picture.{Picture, IsKept}
+use Rattle.guest_sys.specs.Limits.{hart_limit}
 use Rattle.machine.specs.Start.{start_of}
 use Rattle.machine.specs.States.{State}
 use Rattle.machine.specs.declared.outcome.Outcome.{Outcome}
 use Rattle.machine.specs.declared.outcome.Outcome.TheVariants.{Limit}
+use Rattle.sched_log.specs.Limits.{count_limit}
 use Rattle.sched_log.specs.Printed.{printed, ReadsAs}
 use Rattle.sched_log.specs.declared.event.Event.{Event}
 use Rattle.pacing.specs.Clocks.{reals}
@@ -38,8 +40,8 @@ use Rattle.live.specs.Records.{script_limit, IsRecord}
 -- the laws that this rests on
 pub record Laws : Type 0 where
   pub plays : (es : List Event) (w v : Replaced) → MakesAll es w v → Plays es (steps_of es) w v
-  pub back : (p : Picture) (start : State) (every : ℕ) (log : List Event) → IsKept p → Paced p start every log → length (state_at p start log).harts ≤ 64 → reals log ≤ 2000000000 → ReadsAs p log (printed log)
-  pub text : (p : Picture) (start : State) (every : ℕ) (log : List Event) → Paced p start every log → length (state_at p start log).harts ≤ 64 → length (printed log) ≤ 11 * length log + 4
+  pub back : (p : Picture) (start : State) (every : ℕ) (log : List Event) → IsKept p → Paced p start every log → length (state_at p start log).harts ≤ hart_limit → reals log ≤ count_limit → ReadsAs p log (printed log)
+  pub text : (p : Picture) (start : State) (every : ℕ) (log : List Event) → Paced p start every log → length (state_at p start log).harts ≤ hart_limit → length (printed log) ≤ 11 * length log + 4
   pub headline : (image : Picture) (events : List Event) (ring : ℕ) (input : List ℕ) (harts : List ℕ) (world : Replaced) (unended : Outcome) (shown : Bool) → IsKept image → Plays events harts (started image ring input) world
       → Headline image events ring (start_of image input) harts (started image ring input) world unended (delivery_of unended shown world)
   pub one_run : (image : Picture) (events : List Event) (ring : ℕ) (input : List ℕ) (hs gs : List ℕ) (u v : Replaced) → IsKept image → Plays events hs (started image ring input) u → Plays events gs (started image ring input) v → u ≡ v
@@ -92,20 +94,20 @@ module _ (laws : Laws) (image : Picture) (input : List ℕ) (said : Words) (kept
   limit_reached r ended.Limit run (is, inl steps) none = inl (subst (λ n. t.limit ≤ n) (sym (reals_are r run)) steps)
   limit_reached r ended.Limit run (is, inr entries) none = inr (subst (λ n. entry_limit ≤ n) (sym (entries_are r)) entries)
 
-  module _ (ran : Ran) (has : HasRun t ran) (few : length ran.recorder.at.machine.harts ≤ 64) where
+  module _ (ran : Ran) (has : HasRun t ran) (few : length ran.recorder.at.machine.harts ≤ hart_limit) where
     abbrev log : List Event
     log = told ran.recorder
 
     abbrev start : Replaced
     start = started t.image t.ring t.input
 
-    few_harts : length (state_at t.image (start_in t) log).harts ≤ 64
-    few_harts = subst (λ n. n ≤ 64) (same_many ran.recorder.at (state_in t log) has.run.related) few
+    few_harts : length (state_at t.image (start_in t) log).harts ≤ hart_limit
+    few_harts = subst (λ n. n ≤ hart_limit) (same_many ran.recorder.at (state_in t log) has.run.related) few
 
     plays_it : Plays log (steps_of log) start ran.recorder.at
     plays_it = laws.plays log start ran.recorder.at has.run.made
 
-    few_steps : reals log ≤ 2000000000
+    few_steps : reals log ≤ count_limit
     few_steps = let steps = has.steps in let limit = are.limit.1 in omega (arith, steps, limit, few)
 
     short : length (printed log) ≤ script_limit
