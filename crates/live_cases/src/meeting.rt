@@ -10,6 +10,8 @@ pub enum Place {
     Before { worker: u32, round: u64 },
     /// The plan of a job has been put.
     Placed { job: u64 },
+    /// A plan has been put, of whatever job.
+    AnyPlaced,
 }
 
 /// Turns after which a meeting is given up.
@@ -66,5 +68,6 @@ impl Pace<()> for Meeting {
 
     fn placed(&self, job: u64) {
         self.come(Place::Placed { job });
+        self.come(Place::AnyPlaced);
     }
 }

@@ -90,12 +90,13 @@ fn longest_wait(log: &[Event]) -> u32 {
     longest
 }
 
-// The placer is held after its first job, so the second snapshot is overdue after some 1000 steps, in visits of 64.
+// The placer is held after its first plan until round 100, so a snapshot is overdue after 1000 steps, in visits of 64. If the placer comes
+// late by itself, one is too.
 #[test]
 fn a_plan_that_comes_late_is_worked_out_by_a_worker(rt: HostRuntime) -> Result<(), Fail> {
     let alloc = rt.alloc();
     let meeting = Meeting::of(
-        Place::Placed { job: 1 },
+        Place::AnyPlaced,
         Place::Before {
             worker: 0,
             round: 100,
