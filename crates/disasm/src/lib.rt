@@ -32,3 +32,6 @@ pub fn push_shown(text: &mut String, word: u32, at: u64) -> Result<(), NoMemory>
         None => push_word(text, word),
     }
 }
+
+#[cfg(test)]
+mod tests;

@@ -1,0 +1,4 @@
+pub mod Lexed
+pub mod Numerals
+pub mod Bodies
+pub mod Backwards
