@@ -1,5 +1,5 @@
 -- A shown word is read back.
-use Rattle.std.proofs.Common.{◌≡◌, ◌∙◌, ◌==◌, ◌&&◌, ◌||◌, ◌↔◌, ◌<◌, ◌≤◌, ◌+◌, ◌-◌, ◌*◌, ◌^◌, ◌%◌, ◌≤ℤ◌, ◌<ℤ◌, ◌+ℤ◌, ◌-ℤ◌, ℕ, suc, ℤ, pos, negsuc, neg_ℤ, unsigned_abs, int_lt, not, codes, is_some, if◌then◌else◌, Bool, true, false, eqb, Option, Some, None, IfSome, option_map, List, [], ◌∷◌, ◌++◌, sym, subst, ap, refl, arith}
+use Rattle.std.proofs.Common.{◌≡◌, ◌∙◌, ◌==◌, ◌&&◌, ◌||◌, ◌<◌, ◌^◌, ◌≤ℤ◌, ◌<ℤ◌, ◌+ℤ◌, ◌-ℤ◌, ℕ, ℤ, pos, negsuc, neg_ℤ, unsigned_abs, int_lt, not, codes, is_some, if◌then◌else◌, Bool, true, false, eqb, Option, Some, None, IfSome, List, [], ◌∷◌, sym, subst, ap, refl, arith}
 use Rattle.std.proofs.lemmas.Int.{ints}
 use Rattle.std.proofs.lemmas.Bool.{false≢true}
 use Rattle.std.proofs.lemmas.Bool.Decides.{nat_tests}
@@ -10,7 +10,7 @@ use Rattle.rv_isa.specs.declared.instr.Width.{Width}
 use Rattle.rv_isa.specs.declared.instr.ShiftOp.{ShiftOp}
 use Rattle.rv_isa.specs.declared.instr.ShiftOp.TheVariants as shift
 use Rattle.rv_decode.proofs.Decoded.{decoded_read}
-use Rattle.rv_isa.specs.Ranges.{IsWithin, IsImm12, IsOffB, IsOffJ}
+use Rattle.rv_isa.specs.Ranges.{IsOffB, IsOffJ}
 use Rattle.rv_isa.specs.declared.instr.Order.{Order}
 use Rattle.rv_isa.specs.declared.instr.Instr.{Instr}
 use Rattle.rv_isa.specs.declared.instr.Instr.TheVariants.{Alu, AluImm, ShiftImm, Lui, Auipc, Jal, Jalr, Branch, Load, Store, Lr, Sc, Amo, Fence, Ecall, Ebreak}
@@ -18,11 +18,10 @@ use Rattle.rv_isa.specs.declared.instr.Cond.{Cond}
 use Rattle.rv_isa.specs.Decoded.{decoded}
 use Rattle.rv_encode.proofs.OneWord.{one_word}
 use Rattle.asm_text.specs.declared.keyword.Section.TheVariants.{Text}
-use Rattle.asm_text.specs.declared.statement.Statement.{Statement}
 use Rattle.asm_text.specs.declared.operand.Target.TheVariants.{Address}
 use Rattle.asm_text.specs.declared.body.Body.{Body}
 use Rattle.asm_text.specs.declared.body.Body.TheVariants as says
-use Rattle.asm_text.specs.Bodies.{is_within, no_order}
+use Rattle.asm_text.specs.Bodies.{no_order}
 use Rattle.rv_asm.specs.declared.meaning.Meaning.{Meaning}
 use Rattle.rv_asm.specs.declared.state.State.{State}
 use Rattle.rv_asm.specs.declared.code.Code.{Code}
@@ -32,7 +31,7 @@ use Rattle.rv_asm.specs.Emission.{AreWords, Stands, code}
 use Rattle.rv_asm.specs.Faults.{faults, size_faults, jal_reaches, branch_reaches}
 use Rattle.disasm.specs.Shown.{register, hexadecimal, statement, branch_name, if_plain, shown, instruction_text, word_text, target_from, is_full}
 use Rattle.disasm_laws.proofs.Lexed.{left_of, right_of}
-use Rattle.disasm_laws.specs.Back.{IsWord, ReadsBack, HasRanges}
+use Rattle.disasm_laws.specs.Back.{ReadsBack, HasRanges}
 use Rattle.disasm_laws.proofs.Bodies.{IsLine, stated, not_less, within, alu_line, imm_line, shift_line, lui_line, auipc_line, jal_line, branch_line, jalr_line, load_line, store_line, lr_line, sc_line, amo_line, word_line, fence_line, ecall_line, ebreak_line}
 
 -- a line whose statement gives this code, which one word alone stands for

@@ -1,9 +1,9 @@
 -- What the assembler's statement of each kind says.
-use Rattle.std.proofs.Common.{◌≡◌, ◌∙◌, ◌==◌, ◌&&◌, ◌||◌, ◌<◌, ◌≤◌, ◌+◌, ◌-◌, ◌^◌, ◌≤ℤ◌, ◌+ℤ◌, ◌-ℤ◌, ℕ, suc, ℤ, pos, negsuc, neg_ℤ, unsigned_abs, int_lt, not, cond, codes, Bool, true, false, eqb, Option, Some, option_map, List, [], ◌∷◌, ◌++◌, flat_map, sym, ap, refl, arith}
+use Rattle.std.proofs.Common.{◌≡◌, ◌∙◌, ◌&&◌, ◌<◌, ◌-◌, ◌^◌, ◌≤ℤ◌, ℕ, ℤ, pos, negsuc, neg_ℤ, int_lt, codes, Bool, true, false, Some, List, [], ◌∷◌, ◌++◌, flat_map, ap, refl, arith}
 use Rattle.std.proofs.lemmas.Int.{ints}
 use Rattle.std.specs.List.{slice_split}
 use Rattle.std.specs.Fmt.{digits}
-use Rattle.rv_isa.specs.Ranges.{IsWithin, IsImm12, IsOffB, IsOffJ}
+use Rattle.rv_isa.specs.Ranges.{IsWithin, IsImm12}
 use Rattle.rv_isa.specs.Instr.{IsAmount, IsStoreWidth}
 use Rattle.rv_isa.specs.declared.instr.AluOp.{AluOp}
 use Rattle.rv_isa.specs.declared.instr.AluOp.TheVariants as alu
@@ -18,10 +18,10 @@ use Rattle.rv_isa.specs.declared.instr.Cond.TheVariants as cond_of
 use Rattle.rv_isa.specs.declared.instr.Width.{Width}
 use Rattle.rv_isa.specs.declared.instr.Width.TheVariants as width_of
 use Rattle.rv_isa.specs.declared.instr.Instr.TheVariants as instr
-use Rattle.asm_text.specs.Tokens.{tokens_of, is_name, is_name_byte}
+use Rattle.asm_text.specs.Tokens.{tokens_of, is_name}
 use Rattle.asm_text.specs.Keywords.{keyword_of}
 use Rattle.asm_text.specs.Bodies.{is_within, signed_12, unsigned_20, amount_of, of_bits, no_order, read, read_as, alu_of, imm_of, shift_of, branch_of, load_of, store_of, jalr_of, lr_of, sc_of, amo_of, lui_of, auipc_of, jal_of, fixed_of, word_of}
-use Rattle.asm_text.specs.Operands.{name_in, target_in}
+use Rattle.asm_text.specs.Operands.{target_in}
 use Rattle.asm_text.specs.Statements.{line_statements, part_statements, is_semicolon, whole}
 use Rattle.asm_text.specs.declared.token.Token.{Token}
 use Rattle.asm_text.specs.declared.token.Token.TheVariants.{Word}
@@ -30,7 +30,7 @@ use Rattle.asm_text.specs.declared.operand.Target.TheVariants.{Address}
 use Rattle.asm_text.specs.declared.body.Body.{Body}
 use Rattle.asm_text.specs.declared.body.Body.TheVariants as says
 use Rattle.asm_text.specs.declared.statement.Statement.{Statement}
-use Rattle.disasm.specs.Shown.{Operand, register, number, hexadecimal, based, base, statement, hex_text, alu_name, imm_name, shift_name, branch_name, load_name, store_name, amo_name, wide_name}
+use Rattle.disasm.specs.Shown.{register, number, hexadecimal, based, base, statement, hex_text, alu_name, imm_name, shift_name, branch_name, load_name, store_name, amo_name, wide_name}
 use Rattle.disasm_laws.proofs.Lexed.{IsWord, all_tokens, lexed}
 use Rattle.disasm_laws.proofs.Numerals.{IsSmall, number_word, register_word, hex_word, number_back, hex_back, register_back}
 

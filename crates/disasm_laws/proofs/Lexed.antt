@@ -1,8 +1,8 @@
 -- The tokens of a statement: its name, and its operands with a comma between two of them.
-use Rattle.std.proofs.Common.{◌≡◌, ◌∙◌, ◌==◌, ◌&&◌, ◌||◌, ◌<◌, ℕ, ℤ, pos, negsuc, suc, Bool, true, false, eqb, List, [], ◌∷◌, ◌++◌, length, sym, ap, refl, append_assoc, append-nil, arith}
+use Rattle.std.proofs.Common.{◌≡◌, ◌∙◌, ◌&&◌, ℕ, Bool, true, false, eqb, List, [], ◌∷◌, ◌++◌, sym, ap, refl, append_assoc, append-nil}
 use Rattle.std.proofs.lemmas.Bool.{ne_eqb, false≢true}
 use Rattle.std.specs.List.{list_all, AllByRecursion}
-use Rattle.std.specs.Fmt.{decimal, signed_decimal, digits}
+use Rattle.std.specs.Fmt.{signed_decimal}
 use Rattle.asm_text.specs.Tokens.{is_name_byte, flush, tokens, tokens_of}
 use Rattle.asm_text.specs.declared.token.Token.{Token}
 use Rattle.asm_text.specs.declared.token.Token.TheVariants.{Word, Comma, Open, Close}

@@ -1,5 +1,5 @@
 -- Numbers and registers as they are shown are words, and are read back.
-use Rattle.std.proofs.Common.{rules, ◌≡◌, ◌∙◌, ◌==◌, ◌&&◌, ◌||◌, ◌<◌, ◌≤◌, ◌+◌, ◌-◌, ◌*◌, ◌^◌, ℕ, zero, suc, ℤ, pos, negsuc, neg_ℤ, Bool, true, false, eqb, Option, Some, List, [], ◌∷◌, ◌++◌, length, min, sym, subst, ap, refl, arith, ⊎_elim}
+use Rattle.std.proofs.Common.{rules, ◌≡◌, ◌∙◌, ◌==◌, ◌&&◌, ◌<◌, ◌+◌, ◌-◌, ◌*◌, ◌^◌, ℕ, zero, suc, ℤ, pos, negsuc, Bool, true, false, eqb, Some, List, [], ◌∷◌, length, min, sym, subst, ap, refl, arith, ⊎_elim}
 use Rattle.std.proofs.lemmas.Bool.{ne_eqb, lt-ltb, cases_eq, false≢true}
 use Rattle.std.proofs.lemmas.Bool.Decides.{nat_tests}
 use Rattle.std.proofs.lemmas.Fmt.{digits_decimal, digits_value-decimal, decimal_nonempty, digits_is_IsNumeral}
@@ -8,7 +8,7 @@ use Rattle.std.specs.List.{list_all, fold}
 use Rattle.std.specs.Fmt.{decimal, signed_decimal, digits}
 use Rattle.std.specs.Str.Parse.{AllDigits, digits_value_after}
 use Rattle.std.specs.Char.{digit_value}
-use Rattle.texts.specs.Texts.{is_digit, all_digits, value_of, is_hex_digit, hex_digit_value, hex_value_of}
+use Rattle.texts.specs.Texts.{is_digit, all_digits, value_of, is_hex_digit, hex_digit_value}
 use Rattle.asm_text.specs.Tokens.{is_name_byte, byte_at}
 use Rattle.asm_text.specs.Numbers.{decimal_of, hex_of, number_of}
 use Rattle.asm_text.specs.Operands.{register_of}
