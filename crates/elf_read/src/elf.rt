@@ -1,7 +1,7 @@
 //! The parts of an executable.
 
-ghost use Rattle.std.specs.Prelude.{◌≡◌, ◌==◌, ◌<◌, nat_eq, map, slice_get, slice_index_or, length, false};
-ghost use Rattle.std.specs.List.{list_any, starts_with};
+ghost use Rattle.std.specs.Prelude.{◌≡◌, ◌==◌, ◌<◌, nat_eq, map, position, slice_get, slice_index_or, length, IfSome, false};
+ghost use Rattle.std.specs.List.{before_first, list_any, starts_with};
 ghost use Rattle.elf_read.specs.Names.{symbol};
 ghost use Rattle.elf_read.specs.Whole.{IsWhole};
 
@@ -51,6 +51,31 @@ impl<'a> Name<'a> {
         ensures { result ≡ starts_with nat_eq self.now head.now }
     {
         self.rest.starts_with(head)
+    }
+
+    /// The bytes of the name. It takes time by their number.
+    pub fn bytes(&self) -> &'a [u8]
+        ensures { result.now ≡ self.now }
+    {
+        up_to_zero(self.rest)
+    }
+}
+
+fn zero_place(bytes: &[u8]) -> Option<usize>
+    ensures first { result ≡ position (λ b. b == 0) bytes.now }
+    ensures within { IfSome result (λ i. i < length bytes.now) }
+{
+    bytes.iter().position(|b| *b == 0)
+}
+
+// The bytes before the first zero byte, or all where none is zero.
+#[tactic(auto, using(finite::proofs::Finding::before_found, finite::proofs::Finding::before_none))]
+fn up_to_zero(bytes: &[u8]) -> &[u8]
+    ensures { result.now ≡ before_first (λ b. b == 0) bytes.now }
+{
+    match zero_place(bytes) {
+        Some(end) => &bytes[..end],
+        None => bytes,
     }
 }
 
