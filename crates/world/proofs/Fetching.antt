@@ -31,7 +31,7 @@ use Rattle.world.specs.Fetching.{both, word_as, is_address, fetched_at, fetched_
 use Rattle.world.specs.Worlds.{code_in}
 use Rattle.world.proofs.Following.{never_moved}
 
-layout_at : (c : Code) (a : ℕ) (q : Option Point) → c.point a ≡ q → is_layout_step c a ≡ is_layout_point c a q
+pub layout_at : (c : Code) (a : ℕ) (q : Option Point) → c.point a ≡ q → is_layout_step c a ≡ is_layout_point c a q
 unfolding is_layout_step
 layout_at c a q e = ap (is_layout_point c a) e
 
@@ -80,7 +80,7 @@ module _ (p : Picture) (image_kept : image.IsKept p) (c : Code) (same : (x : ℕ
   row_address x (branch k rs1 rs2 off aim t w m n) = by_reads x _ _ t w refl
   row_address x (branch_inverted k rs1 rs2 off aim t w m n) = by_reads x _ _ t w refl
 
-  by_point : Renders c → (w : ℕ) (q : Point) → c.word a ≡ Some w → c.point a ≡ Some q → fetched_of (Some (w, q)) ≡ fetched_at c a
+  pub by_point : Renders c → (w : ℕ) (q : Point) → c.word a ≡ Some w → c.point a ≡ Some q → fetched_of (Some (w, q)) ≡ fetched_at c a
   by_point r w (Hop x) e f = fetched_by c a true (Some w) (layout_at c a (Some (Hop x)) f) e
   by_point r w (Mid x) e f = fetched_by c a false (Some w) (layout_at c a (Some (Mid x)) f) e
   by_point r w (Start x) e f =
@@ -96,7 +96,7 @@ fetched_in_region p text lives a image_kept r inside = by_here (live_at lives a)
     by_here (Some h) e = by_point p image_kept (code_in p text lives) (λ x. refl) a inside r h.word h.point (rw (inside, e) refl) (rw (inside, e) refl)
 
 -- ---- a step on what was fetched
-layout_fetched : (c : Code) (a : ℕ) → is_layout_fetch (fetched_at c a) ≡ is_layout_step c a
+pub layout_fetched : (c : Code) (a : ℕ) → is_layout_fetch (fetched_at c a) ≡ is_layout_step c a
 unfolding fetched_at
 layout_fetched c a = by_test (is_layout_step c a) (c.word a)
   where

@@ -1,5 +1,7 @@
 pub mod Counting
 pub mod Fitting
+pub mod Flights
+pub mod Private
 pub mod Following
 pub mod Found
 pub mod FreeRanges
@@ -25,6 +27,7 @@ pub mod RingsFit
 pub mod Running
 pub mod SentSlots
 pub mod ShortWords
+pub mod Shown
 pub mod Snapping
 pub mod SoundAgain
 pub mod Spread

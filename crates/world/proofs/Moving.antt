@@ -37,7 +37,7 @@ pub layout_made : (h : ℕ) (w : Replaced) → is_layout (kind_of h w) ≡ true 
 layout_made h w l = live_made w.machine.harts h (layout_of (code_of w) h w.machine l).live
 
 -- ---- what it makes
-led_hart : (o : Option Instr) (hart : Hart) → hart_led o hart ≡ led (led_by o hart.pc) hart
+pub led_hart : (o : Option Instr) (hart : Hart) → hart_led o hart ≡ led (led_by o hart.pc) hart
 led_hart None hart = refl
 led_hart (Some (Auipc rd imm)) hart = refl
 led_hart (Some (Jal rd off)) hart = refl

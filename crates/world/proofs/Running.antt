@@ -85,7 +85,7 @@ step_sound : (h : ℕ) (w : Replaced) → IsWorld w → IsWorld (step_of h w)
 unfolding step_of
 step_sound h w s = s
 
-until_sound : (n h : ℕ) (w : Replaced) → IsWorld w → IsWorld (until_real n h w)
+pub until_sound : (n h : ℕ) (w : Replaced) → IsWorld w → IsWorld (until_real n h w)
 unfolding until_real
 until_sound zero h w s = s
 until_sound (suc n) h w s = by_first (is_layout (kind_of h w)) (until_sound n h (step_of h w) (step_sound h w s))

@@ -94,7 +94,7 @@ pub ended_real : (h : ℕ) (w : Replaced) → is_some w.machine.outcome ≡ true
 unfolding until_real
 ended_real h w e = ap (λ k. cond (is_layout k) (until_real 2 h (step_of h w)) (step_of h w)) (ended_over (code_of w) h w.machine e) ∙ ended_step h w e
 
-ended_steps : (n h : ℕ) (w : Replaced) → is_some w.machine.outcome ≡ true → real_steps_of n h w ≡ w
+pub ended_steps : (n h : ℕ) (w : Replaced) → is_some w.machine.outcome ≡ true → real_steps_of n h w ≡ w
 ended_steps zero h w e = refl
 ended_steps (suc n) h w e = ap (real_steps_of n h) (ended_real h w e) ∙ ended_steps n h w e
 

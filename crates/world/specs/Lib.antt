@@ -1,3 +1,4 @@
+pub mod Adopting
 pub mod Fetching
 pub mod Finding
 pub mod Records

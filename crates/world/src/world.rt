@@ -1,6 +1,7 @@
 //! The machine whose code is moved, and its step.
 
 ghost use Rattle.std.specs.Prelude.{◌≡◌, ◌≢◌, ◌+◌, ◌++◌, ◌^◌, ◌<◌, ◌≤◌, ◌↔◌, if◌then◌else◌, ℕ, List, [], length, replicate, true, false, None, IfOk, IfErr, OnOk, OnErr, is_some};
+ghost use Rattle.std.specs.Arc.{arc_value};
 ghost use Rattle.branch_ring.specs.Profiles.{IsProfile, all_pairs};
 ghost use Rattle.guest_sys.specs.Calls.{output};
 ghost use Rattle.guest_sys.specs.State.{IsOrderly};
@@ -16,8 +17,10 @@ ghost use Rattle.world.specs.Replacing.{Refuses, IsPlacement, IsReplaced, slots_
 ghost use Rattle.retire.specs.References.{AreUnreferenced};
 ghost use Rattle.world.specs.Retiring.{held_by, without, freed, RetiresAs, LeadsToCode};
 ghost use Rattle.world.specs.Records.{Records, SnapsAs, rings_of};
+ghost use Rattle.world.specs.Adopting.{adopted, shown_of};
 ghost use Rattle.world.specs.Told.{retired_in, facts_of};
 
+use crate::adopting::{more_by, note_all};
 use crate::code::{Before, Led, is_layout, is_over, led_by, other_step_in};
 use crate::counts::{Counts, more};
 use crate::giving_up::{give_up, links_held, pcs_of, text_aims};
@@ -25,10 +28,13 @@ use crate::live::{add, aim};
 use crate::place::{Placement, is_no_memory, place};
 use crate::points::{Lives, live_word};
 use crate::rings::Rings;
+use crate::shared::{CodeNow, Looked, look_in};
 use crate::slots::send;
 use crate::told::{changed_in, hart_facts, layout_facts, slots_in};
 use branch_ring::profile::Profile;
+use hart::hart::Hart;
 use image::picture::Image;
+use link_tags::value::Value;
 use machine::machine::Machine;
 use machine::outcome::Outcome;
 use oc_base::fault::NoMemory;
@@ -41,6 +47,7 @@ use sched_log::facts::{Facts, Refusal, Refused};
 use sim_laws::stepped::Stepped;
 use std::alloc::Global;
 use std::marker::Model;
+use std::sync::Arc;
 
 /// A machine whose code is moved while it runs.
 #[derive(Drop)]
@@ -627,5 +634,76 @@ impl World {
             layouts: Items::from_vec(layouts),
             harts: Items::from_vec(harts),
         })
+    }
+
+    /// Puts in what hart `h` did out of the world.
+    fn take_in(
+        &mut self,
+        h: u32,
+        regs: [Value; 32],
+        pc: u64,
+        real: u64,
+        layout: u64,
+        transfers: &[(u64, u64)],
+    )
+        requires { h < length self.old.machine.harts }
+        ensures { self.new ≡ adopted h (record { regs = regs; pc = pc; real = real; layout = layout; transfers = transfers.now }) self.old }
+    {
+        self.machine.set_hart(h, regs, pc);
+        self.counts.real = more_by(real, self.counts.real);
+        self.counts.layout = more_by(layout, self.counts.layout);
+        note_all(&mut self.rings, h, transfers);
+    }
+
+    /// Takes in what hart `h` did out of the world: its registers and pc then, how many real steps and how many of layouts alone it made,
+    /// and the transfers of the real ones. It takes no memory.
+    ///
+    /// It is for real steps that the world itself would have made so, and then is what they are.
+    pub fn adopt(
+        &mut self,
+        h: u32,
+        regs: [Value; 32],
+        pc: u64,
+        real: u64,
+        layout: u64,
+        transfers: &[(u64, u64)],
+    )
+        requires made { h < length self.old.machine.harts }
+        requires leads { real_steps_of real h self.old ≡ adopted h (record { regs = regs; pc = pc; real = real; layout = layout; transfers = transfers.now }) self.old }
+        ensures is { self.new ≡ real_steps_of real h self.old }
+        ensures adopted { self.new ≡ adopted h (record { regs = regs; pc = pc; real = real; layout = layout; transfers = transfers.now }) self.old }
+        ensures follows { (o : State) → Related self.old o → Related self.new (original_run self.old.image (replicate real h) o) }
+        ensures records { (ring : ℕ) (o : State) (hs : List ℕ) → Related self.old (original_run self.old.image hs o) → Records ring self.old o hs → Records ring self.new o (hs ++ replicate real h) }
+    {
+        self.kept();
+        self.take_in(h, regs, pc, real, layout, transfers);
+    }
+
+    /// A copy of the code, for a hart that goes by it out of the world.
+    pub fn code(&self, alloc: Global, image: &Arc<Image>) -> Result<CodeNow, NoMemory>
+        requires { arc_value image.now ≡ self.now.image }
+        ensures { IfOk result (λ c. c ≡ shown_of self.now) }
+    {
+        self.kept();
+        CodeNow::of(alloc, image, &self.text, &self.lives)
+    }
+
+    /// What stands at an address. The layout at the position `recent` is tried before the search, and becomes the one in which the address
+    /// was found. It may be any number.
+    #[inline(always)]
+    pub fn look(&self, recent: &mut usize, at: u64) -> Looked
+        ensures word { result.word ≡ (code_of self.now).word at }
+        ensures point { result.point ≡ (code_of self.now).point at }
+    {
+        self.kept();
+        look_in(&self.image, &self.text, &self.lives, recent, at)
+    }
+
+    /// A hart that was made.
+    pub fn hart(&self, h: u32) -> &Hart
+        requires { h < length self.now.machine.harts }
+        ensures { result.now ≡ hart_in self.now.machine.harts h }
+    {
+        self.machine.hart(h)
     }
 }
