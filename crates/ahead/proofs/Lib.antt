@@ -1,0 +1,15 @@
+pub mod Agreeing
+pub mod AimsSeen
+pub mod Alike
+pub mod Whole
+pub mod Passing
+pub mod LayoutNotes
+pub mod Leading
+pub mod OneReal
+pub mod Joining
+pub mod FirstApart
+pub mod Coming
+pub mod Makings
+pub mod Stopping
+pub mod Acting
+pub mod Looking

@@ -1,0 +1,4 @@
+pub mod Flown
+pub mod Going
+pub mod Making
+pub mod Notes
