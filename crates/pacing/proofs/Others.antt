@@ -258,16 +258,21 @@ module _ (origin : ℕ → ℕ) (p : Picture) (h : ℕ) where
       by_test true = record { made = l.made; live = l.live; listed = l.listed }
       by_test false = l
 
-pub step_leaves : (p : Picture) (h : ℕ) (s : State) → Leaves h s (original_step p h s)
-unfolding original_step step_with
-step_leaves p h s = by_test (can_step h s)
+-- by any words and any original numbers
+pub step_with_leaves : (fetch : ℕ → Option ℕ) (origin : ℕ → ℕ) (p : Picture) (h : ℕ) (s : State) → Leaves h s (step_with fetch origin p h s)
+unfolding step_with
+step_with_leaves fetch origin p h s = by_test (can_step h s)
   where
     next : State
-    next = settled (on_fetched (λ a. a) p h (word_at p.texts (hart_in s.harts h).pc) s)
+    next = settled (on_fetched origin p h (fetch (hart_in s.harts h).pc) s)
 
     by_test : (b : Bool) → Leaves h s (if b then next else s)
-    by_test true = settled_leaves (λ a. a) p h s _ (fetched_leaves (λ a. a) p h (word_at p.texts (hart_in s.harts h).pc) s)
+    by_test true = settled_leaves origin p h s _ (fetched_leaves origin p h (fetch (hart_in s.harts h).pc) s)
     by_test false = alike_leaves h s s (itself s)
+
+pub step_leaves : (p : Picture) (h : ℕ) (s : State) → Leaves h s (original_step p h s)
+unfolding original_step
+step_leaves p h s = step_with_leaves (word_at p.texts) (λ a. a) p h s
 
 -- a live hart isn't on a list that has no live one
 pub off_list : (k : ℕ) (s : State) → ListsNoLive s → IsLiveIn s.harts k → IsOff k s.system.waiting

@@ -23,6 +23,7 @@ use Rattle.world.specs.Records as records
 use Rattle.world.proofs.Stepping.{ended_step, ended_real}
 use Rattle.recorder.specs.Journals.{unfolded, entered, is_left_out, unless}
 use Rattle.recorder.specs.Marking.{attempted}
+use Rattle.recorder.specs.Numbers.{replaced_code}
 use Rattle.recorder.specs.Recording.{Recorded, IsRunOfLog}
 
 -- one more is asked for
@@ -127,13 +128,14 @@ unreadable_isnt g why e = cc
 
 pub attempt_none : (plan : List Moved) (w v : Recorded) (b : Bool) (real : ℕ) (answer : Result Unit Refusal) → Attempts plan w.at b answer v.at
     → v.journal ≡ entered (is_left_out b answer) (Given plan) w.journal → v.marks ≡ attempted (is_left_out b answer) real w.marks
-    → IfErr answer (λ why. why ≡ refusal.NoMemory → v ≡ w)
-attempt_none plan w v b real (Ok u) is journal marks = tt
-attempt_none plan w v true real (Err why) is journal marks = absurd is
-attempt_none plan w v false real (Err (refusal.RegionFull n m)) is journal marks = λ e. absurd (region_isnt n m e)
-attempt_none plan w v false real (Err (refusal.BranchReach at to)) is journal marks = λ e. absurd (reach_isnt at to e)
-attempt_none plan w v false real (Err (refusal.Unreadable g why)) is journal marks = λ e. absurd (unreadable_isnt g why e)
-attempt_none plan w v false real (Err refusal.NoMemory) is journal marks = λ e. (λ i. record { at = is i; journal = journal i; marks = marks i })
+    → v.gate ≡ w.gate → v.code ≡ replaced_code b answer w.code → v.steps ≡ w.steps → IfErr answer (λ why. why ≡ refusal.NoMemory → v ≡ w)
+attempt_none plan w v b real (Ok u) is journal marks gate code steps = tt
+attempt_none plan w v true real (Err why) is journal marks gate code steps = absurd is
+attempt_none plan w v false real (Err (refusal.RegionFull n m)) is journal marks gate code steps = λ e. absurd (region_isnt n m e)
+attempt_none plan w v false real (Err (refusal.BranchReach at to)) is journal marks gate code steps = λ e. absurd (reach_isnt at to e)
+attempt_none plan w v false real (Err (refusal.Unreadable g why)) is journal marks gate code steps = λ e. absurd (unreadable_isnt g why e)
+attempt_none plan w v false real (Err refusal.NoMemory) is journal marks gate code steps =
+    λ e. (λ i. record { at = is i; journal = journal i; marks = marks i; gate = gate i; code = code i; steps = steps i })
 
 pub on_ok : {A E P Q : Type 0} (answer : Result A E) → (P → Q) → OnOk answer P → OnOk answer Q
 on_ok (Ok a) f p = f p

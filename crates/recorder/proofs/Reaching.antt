@@ -22,7 +22,7 @@ pub reached_later : (m : Marks) (real later : ℕ) → real ≤ later → AreRea
 reached_later m real later le r = let a = r.attempt in let s = r.snap in record { attempt = omega arith; snap = omega arith }
 
 -- ---- steps
-counted_more : (k : Stepped) (c : Counts) → c.real < 2 ^ 64 → (c.real ≤ (counted k c).real) × ((counted k c).real < 2 ^ 64)
+pub counted_more : (k : Stepped) (c : Counts) → c.real < 2 ^ 64 → (c.real ≤ (counted k c).real) × ((counted k c).real < 2 ^ 64)
 counted_more kind.Real c lt = (grind arith, grind arith)
 counted_more kind.Layout c lt = (omega arith, lt)
 counted_more kind.Over c lt = (omega arith, lt)
@@ -63,7 +63,7 @@ retirement_real w v true (Err e) is = absurd is
 retirement_real w v false (Ok n) is = ap (λ (x : Replaced). x.counts.real) is.is
 retirement_real w v false (Err e) is = ap (λ (x : Replaced). x.counts.real) is
 
-done_real : (new : Option Laid) (c : Counts) → (done_by new c).real ≡ c.real
+pub done_real : (new : Option Laid) (c : Counts) → (done_by new c).real ≡ c.real
 done_real None c = refl
 done_real (Some l) c = refl
 

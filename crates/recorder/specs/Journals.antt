@@ -1,5 +1,5 @@
 -- The log of a world, and what it asks for. Source: this project.
-use Rattle.std.specs.Prelude.{◌≡◌, ℕ, ◌+◌, ◌-◌, ◌^◌, ◌<◌, ◌==◌, ◌&&◌, nat_lt, Bool, true, false, List, [], ◌∷◌, ◌++◌, length, replicate, slice_set, Option, Some, None, Result, Err, if◌then◌else◌}
+use Rattle.std.specs.Prelude.{◌≡◌, ℕ, zero, suc, ◌+◌, ◌-◌, ◌^◌, ◌<◌, ◌==◌, ◌&&◌, nat_lt, Bool, true, false, List, [], ◌∷◌, ◌++◌, length, replicate, slice_set, Option, Some, None, Result, Err, if◌then◌else◌}
 use Rattle.std.specs.List.{flat_map}
 use Rattle.sched_log.specs.declared.event.Event.{Event}
 use Rattle.sched_log.specs.declared.event.Event.TheVariants.{Steps, Real, Till, Snap, Replace, Given, Retire}
@@ -71,6 +71,11 @@ entries_with a false log = log ++ entry_of a 1 ∷ []
 abbrev pub noted : (left_out : Bool) → Asked → Journal → Journal
 noted true a j = j
 noted false a j = record { entries = entries_with a j.is_open j.entries; is_open = true }
+
+-- so many steps, one after another
+abbrev pub noted_times : ℕ → Asked → Journal → Journal
+noted_times zero a j = j
+noted_times (suc n) a j = noted_times n a (noted false a j)
 
 -- an entry of its own, in which no step is counted
 abbrev pub entered : (left_out : Bool) → Event → Journal → Journal

@@ -1,3 +1,5 @@
 pub mod Journals
 pub mod Marking
+pub mod Numbers
 pub mod Recording
+pub mod Leaving

@@ -1,7 +1,7 @@
 //! The log that a world keeps.
 
-ghost use Rattle.std.specs.Prelude.{◌≡◌, ◌<◌, ◌+◌, ◌-◌, true, false, [], OnOk, length, slice_set, vec_len, vec_capacity};
-ghost use Rattle.recorder.specs.Journals.{count_limit, entry_of, count_in, LengthensAs, journal_of, noted, entered};
+ghost use Rattle.std.specs.Prelude.{◌≡◌, ◌<◌, ◌≤◌, ◌+◌, ◌-◌, true, false, [], OnOk, length, slice_set, vec_len, vec_capacity};
+ghost use Rattle.recorder.specs.Journals.{count_limit, entry_of, count_in, LengthensAs, journal_of, noted, noted_times, entered};
 
 use oc_base::fault::NoMemory;
 use sched_log::event::Event;
@@ -64,14 +64,15 @@ fn last_count(entries: &[Event], asked: Asked) -> Option<u64>
     }
 }
 
-/// Gives the last entry one more.
-fn lengthen(entries: &mut Vec<Event>, asked: Asked, n: u64)
-    requires some { 0 < vec_len entries.old }
-    requires below { n < count_limit }
-    ensures { entries.new.items ≡ slice_set entries.old.items (length entries.old.items - 1) (entry_of asked (n + 1)) }
+/// Gives the last entry another count.
+fn recount(entries: &mut Vec<Event>, asked: Asked, n: u64)
+    requires { 0 < vec_len entries.old }
+    ensures items { entries.new.items ≡ slice_set entries.old.items (length entries.old.items - 1) (entry_of asked n) }
+    ensures len { vec_len entries.new ≡ vec_len entries.old }
+    ensures room { vec_capacity entries.new ≡ vec_capacity entries.old }
 {
     let last = entries.len() - 1;
-    entries[last] = asked.entry(n + 1);
+    entries[last] = asked.entry(n);
 }
 
 /// The entries, and whether steps may be counted in the last one.
@@ -83,7 +84,8 @@ pub struct Journal {
 
 impl Journal {
     pub fn empty(alloc: Global) -> Journal
-        ensures { journal_of result ≡ record { entries = []; is_open = false } }
+        ensures is { journal_of result ≡ record { entries = []; is_open = false } }
+        ensures len { vec_len result.entries ≡ 0 }
     {
         Journal {
             entries: Vec::new(alloc),
@@ -91,12 +93,14 @@ impl Journal {
         }
     }
 
-    /// Room for one more entry.
-    pub fn room(&mut self) -> Result<(), NoMemory>
+    /// Room for one more entry, beside those that are promised.
+    pub fn room(&mut self, promised: u32) -> Result<(), NoMemory>
         ensures same { journal_of self.new ≡ journal_of self.old }
-        ensures ok { OnOk result (vec_len self.new.entries < vec_capacity self.new.entries) }
+        ensures len { vec_len self.new.entries ≡ vec_len self.old.entries }
+        ensures ok { OnOk result (vec_len self.new.entries + promised + 1 ≤ vec_capacity self.new.entries) }
+        ensures kept { vec_capacity self.old.entries ≤ vec_capacity self.new.entries }
     {
-        self.entries.reserve(1)?;
+        self.entries.reserve(promised as usize + 1)?;
         Ok(())
     }
 
@@ -110,33 +114,61 @@ impl Journal {
         last_count(&self.entries, asked)
     }
 
-    fn count(&mut self, asked: Asked)
-        requires { vec_len self.old.entries < vec_capacity self.old.entries }
-        ensures { journal_of self.new ≡ noted false asked (journal_of self.old) }
+    /// Counts so many steps of a kind, at least one. At most one entry is new.
+    fn count(&mut self, asked: Asked, n: u64)
+        requires some { 0 < n }
+        requires room { vec_len self.old.entries < vec_capacity self.old.entries }
+        ensures is { journal_of self.new ≡ noted_times n asked (journal_of self.old) }
+        ensures len { vec_len self.new.entries ≤ vec_len self.old.entries + 1 }
+        ensures kept { vec_capacity self.new.entries ≡ vec_capacity self.old.entries }
     {
         let count = self.open_count(asked);
         self.is_open = true;
-        match count {
-            Some(n) => lengthen(&mut self.entries, asked, n),
-            None => self.entries.push_reserved(asked.entry(1)),
+        let Some(before) = count else {
+            self.entries.push_reserved(asked.entry(n));
+            return;
+        };
+        let fits = u64::MAX - before;
+        if n <= fits {
+            recount(&mut self.entries, asked, before + n);
+            return;
         }
+        recount(&mut self.entries, asked, u64::MAX);
+        self.entries.push_reserved(asked.entry(n - fits));
     }
 
     /// Counts one step, unless it is left out. It takes no memory.
     pub fn note(&mut self, left_out: bool, asked: Asked)
         requires { vec_len self.old.entries < vec_capacity self.old.entries }
-        ensures { journal_of self.new ≡ noted left_out asked (journal_of self.old) }
+        ensures is { journal_of self.new ≡ noted left_out asked (journal_of self.old) }
+        ensures len { vec_len self.new.entries ≤ vec_len self.old.entries + 1 }
+        ensures kept { vec_capacity self.new.entries ≡ vec_capacity self.old.entries }
     {
         if left_out {
             return;
         }
-        self.count(asked);
+        self.count(asked, 1);
+    }
+
+    /// Counts so many steps. It takes no memory.
+    pub fn note_times(&mut self, asked: Asked, n: u64)
+        requires { vec_len self.old.entries < vec_capacity self.old.entries }
+        ensures is { journal_of self.new ≡ noted_times n asked (journal_of self.old) }
+        ensures len { vec_len self.new.entries ≤ vec_len self.old.entries + 1 }
+        ensures kept { vec_capacity self.new.entries ≡ vec_capacity self.old.entries }
+    {
+        if n == 0 {
+            return;
+        }
+        self.count(asked, n);
     }
 
     /// Adds an entry of its own. It takes no memory.
     pub fn enter(&mut self, event: Event)
         requires { vec_len self.old.entries < vec_capacity self.old.entries }
-        ensures { journal_of self.new ≡ entered false event (journal_of self.old) }
+        ensures is { journal_of self.new ≡ entered false event (journal_of self.old) }
+        ensures len { vec_len self.new.entries ≡ vec_len self.old.entries + 1 }
+        ensures kept { vec_capacity self.new.entries ≡ vec_capacity self.old.entries }
     {
         self.entries.push_reserved(event);
         self.is_open = false;

@@ -159,7 +159,10 @@ fn begun(alloc: Global, guest: &str) -> Result<Recorder, Fail> {
     let Ok(world) = World::start(alloc, image, Vec::new(alloc), 16) else {
         return Err(Fail::new("out of memory"));
     };
-    Ok(Recorder::keep_log(alloc, world))
+    let Ok(recorder) = Recorder::keep_log(alloc, world) else {
+        return Err(Fail::new("out of memory"));
+    };
+    Ok(recorder)
 }
 
 fn told_by(alloc: Global, recorder: &mut Recorder, commands: &str) -> Result<String, Fail> {

@@ -10,6 +10,7 @@ use Rattle.world.proofs.RelatedAgain.{attempt_related}
 pub returns-clause-err : goal.returns-clause-err
 returns-clause-err c =
     attempt_none c.args.plan.now c.args.self.now c.make_replace.new.self _ _ c.make_replace.result c.make_replace.ensures.is c.make_replace.ensures.journal c.make_replace.ensures.marks
+    c.make_replace.ensures.gate c.make_replace.ensures.code c.make_replace.ensures.steps
 
 pub returns-clause-related : goal.returns-clause-related
 returns-clause-related c = attempt_related c.args.plan.now c.args.self.now.at c.make_replace.new.self.at _ c.make_replace.result c.requires.plan c.make_replace.ensures.is
