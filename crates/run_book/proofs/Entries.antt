@@ -1,5 +1,5 @@
 -- A run whose log grows by an entry.
-use Rattle.std.proofs.Common.{◌≡◌, ℕ, ◌+◌, Bool, false, List, [], ◌∷◌, ◌++◌, refl, sym, ap, ◌∙◌, subst}
+use Rattle.std.proofs.Common.{◌≡◌, ℕ, ◌+◌, Bool, false, List, [], ◌∷◌, ◌++◌, refl, sym, ap, ◌∙◌, subst, append_assoc}
 use Rattle.std.specs.Prelude.{is_some, map, None, Result, Ok}
 use Rattle.std.proofs.lemmas.List.{map-append}
 use Rattle.placer.specs.Planned.{IsPlanFor}
@@ -27,6 +27,7 @@ use Rattle.recorder.specs.Recording.{Recorded}
 use Rattle.recorder.proofs.Adding.{Adds, snap_adds, retirement_adds, attempt_adds}
 use Rattle.recorder.proofs.Reaching.{snap_real, retirement_real, attempt_real}
 use Rattle.run_book.specs.Terms.{Terms, start_in, state_in}
+use Rattle.stop_gate.specs.Gates.{Gated, aways}
 use Rattle.run_book.specs.Told.{as_told, told, Makes, MakesAll}
 use Rattle.run_book.specs.Sections.{IsMarked, IsRunOf, FitsNow}
 use Rattle.run_book.proofs.Logs.{limit_retires, limit_replaces, limit_snapped}
@@ -41,18 +42,19 @@ told_more w v d b is = ap (λ (j : Journal). map as_told j.entries) is ∙ map-a
 
 module _ (t : Terms) (w v : Recorded) (d : Event) (run : IsRunOf t w) (log : v.journal ≡ record { entries = w.journal.entries ++ d ∷ []; is_open = false }) where
   pub run_grows : Makes (as_told d) w.at v.at → Related v.at (original_run t.image (steps_in (as_told d)) (state_in t (told w))) → v.at.image ≡ w.at.image
-      → IsMarked (tick (clock_of (told w)) (as_told d)) v.at.counts.real v.marks → IsLimited t.image (start_in t) t.limit 0 (told w ++ as_told d ∷ []) → IsRunOf t v
+      → IsMarked (tick (clock_of (told w)) (as_told d)) v.at.counts.real v.marks → IsLimited t.image (start_in t) t.limit (aways v.gate) (told w ++ as_told d ∷ []) → IsRunOf t v
   run_grows makes related image marked limited =
       let same : told v ≡ told w ++ as_told d ∷ [] = told_more w v d false log in
       record {
         made = subst (λ es. MakesAll es (started t.image t.ring t.input) v.at) (sym same) (makes_more (told w) (as_told d) (started t.image t.ring t.input) w.at v.at run.made makes);
+        begins = (run.begins.0 ++ as_told d ∷ [], same ∙ ap (λ es. es ++ as_told d ∷ []) run.begins.1 ∙ append_assoc t.begins run.begins.0 (as_told d ∷ []));
         related = subst (λ es. Related v.at (state_in t es)) (sym same)
             (subst (Related v.at) (sym (state-snoc t.image (start_in t) (told w) (as_told d))) related);
         image = image ∙ run.image;
         marked = subst (λ es. IsMarked (clock_of es) v.at.counts.real v.marks) (sym same)
             (subst (λ (c : Clock). IsMarked c v.at.counts.real v.marks) (sym (clock-snoc zero_clock (told w) (as_told d))) marked);
         closed = ap (λ (j : Journal). j.is_open) log;
-        limited = subst (λ es. IsLimited t.image (start_in t) t.limit 0 es) (sym same) limited;
+        limited = subst (λ es. IsLimited t.image (start_in t) t.limit (aways v.gate) es) (sym same) limited;
       }
 
 -- ---- the clock
@@ -73,7 +75,10 @@ mark_visit c k real h n m o is same marks =
 one_atom : (a : Atom) (w v : Replaced) → Adds false a [] w v → IsRun (a ∷ []) [] w v
 one_atom a w v adds = (v, [], adds.1, ap (λ hs. hs ++ []) adds.0, (refl, refl))
 
-module _ (t : Terms) (w v : Recorded) (run : IsRunOf t w) (goes_on : is_some w.at.machine.outcome ≡ false) (follows : (o : State) → Related w.at o → Related v.at o) where
+module _ (t : Terms) (w v : Recorded) (run : IsRunOf t w) (goes_on : is_some w.at.machine.outcome ≡ false) (follows : (o : State) → Related w.at o → Related v.at o) (gate : v.gate ≡ w.gate) where
+  as_many_away : (log : List Event) → IsLimited t.image (start_in t) t.limit (aways w.gate) log → IsLimited t.image (start_in t) t.limit (aways v.gate) log
+  as_many_away log l = subst (λ (g : Gated). IsLimited t.image (start_in t) t.limit (aways g) log) (sym gate) l
+
   -- ---- a snapshot
   module _ (u : Unit {0}) (is : SnapsAs w.at (is_some w.at.machine.outcome) (Ok u) v.at) (log : v.journal ≡ entered (is_some w.at.machine.outcome) Snap w.journal)
       (marks : v.marks ≡ snapped (is_some w.at.machine.outcome) w.at.counts.real w.marks) where
@@ -91,7 +96,7 @@ module _ (t : Terms) (w v : Recorded) (run : IsRunOf t w) (goes_on : is_some w.a
         run_grows t w v Snap run snap_entry (one_atom a_snap w.at v.at snap_made) (follows (state_in t (told w)) run.related) (made_image a_snap w.at v.at snap_made.1)
         (mark_snap (clock_of (told w)) v.at.counts.real w.at.counts.real w.marks v.marks run.marked (snap_real w.at v.at (is_some w.at.machine.outcome) (Ok u) is)
         (subst (λ b. v.marks ≡ snapped b w.at.counts.real w.marks) goes_on marks))
-        (limit_snapped t (told w) run.limited)
+        (as_many_away (told w ++ Snap ∷ []) (limit_snapped t (aways w.gate) (told w) run.limited))
 
   -- ---- a retirement
   module _ (n : ℕ) (is : RetiresAs w.at (is_some w.at.machine.outcome) (Ok n) v.at) (log : v.journal ≡ entered (is_some w.at.machine.outcome) Retire w.journal)
@@ -109,7 +114,7 @@ module _ (t : Terms) (w v : Recorded) (run : IsRunOf t w) (goes_on : is_some w.a
     retire_run =
         run_grows t w v Retire run retire_entry (one_atom a_retirement w.at v.at retire_made) (follows (state_in t (told w)) run.related) (made_image a_retirement w.at v.at retire_made.1)
         (mark_retire (clock_of (told w)) v.at.counts.real w.at.counts.real w.marks v.marks run.marked (retirement_real w.at v.at (is_some w.at.machine.outcome) (Ok n) is) marks)
-        (limit_retires t (told w) run.limited)
+        (as_many_away (told w ++ Retire ∷ []) (limit_retires t (aways w.gate) (told w) run.limited))
 
     retired_is : IsRetired w.at v.at n
     retired_is = subst (λ b. RetiresAs w.at b (Ok n) v.at) goes_on is
@@ -146,4 +151,4 @@ module _ (t : Terms) (w v : Recorded) (run : IsRunOf t w) (goes_on : is_some w.a
         (made_image (a_replacement plan) w.at v.at replace_made.1)
         (mark_replace (clock_of (told w)) v.at.counts.real w.at.counts.real w.marks v.marks run.marked (attempt_real plan w.at v.at (is_some w.at.machine.outcome) answer is)
         (subst (λ b. v.marks ≡ attempted b w.at.counts.real w.marks) not_left marks))
-        (limit_replaces t (told w) run.limited)
+        (as_many_away (told w ++ Replace ∷ []) (limit_replaces t (aways w.gate) (told w) run.limited))

@@ -1,5 +1,7 @@
+pub mod Aways
 pub mod Alike
 pub mod Parts
+pub mod Homes
 pub mod Entries
 pub mod Owed
 pub mod Logs
@@ -11,3 +13,5 @@ pub mod Rows
 pub mod Closed
 pub mod Tellings
 pub mod Nexts
+pub mod Stops
+pub mod Growing

@@ -8,100 +8,215 @@ use Rattle.machine.specs.States.{State}
 use Rattle.pacing.specs.Limits.{visit_limit, entry_limit}
 use Rattle.pacing.specs.Clocks.{Clock, clock_of}
 use Rattle.pacing.specs.Pacing.{owes_snap, IsVisit}
-use Rattle.pacing.specs.Serving.{Turn, visits, Serves, TurnFits}
-use Rattle.pacing.specs.Keeping.{is_overdue}
-use Rattle.pacing.specs.Bounds.{IsLimited}
+use Rattle.pacing.specs.Serving.{Turn, visits, IsNext, Serves, TurnFits}
+use Rattle.pacing.specs.Keeping.{is_overdue, IsSettled}
+use Rattle.pacing.specs.Bounds.{IsLimited, IsBounded}
 use Rattle.pacing.proofs.Growing.{each-snoc, each-nil, grown}
-use Rattle.pacing.proofs.Kept.{left, landed, snapped, attempted, rested, over, begun}
+use Rattle.pacing.proofs.Kept.{landed, visited, given_up, snapped, attempted, rested, stop_wanted, over, begun}
+use Rattle.pacing.proofs.Kept as kept
 use Rattle.pacing.proofs.Bounded.{limit_leaves, limit_lands, limit_snaps, bound_begins, bound_leaves, bound_lands, bound_snaps, bound_attempts, bound_rests}
 use Rattle.pacing.proofs.Serves.{still_live, none_yet, own_turn, other_turn}
 use Rattle.pacing.proofs.Others.{start_lists}
 use Rattle.run_book.specs.Terms.{Terms, start_in, state_in}
-use Rattle.run_book.specs.Sections.{turn_of, AreLive, IsAmid, IsAtRest, AreLast}
+use Rattle.run_book.specs.Sections.{turn_of, AreLive, AreChosen, IsAmid, IsAtRest, AreLast}
+use Rattle.run_book.proofs.Aways.{same_or_other, other_left, still_away, is_back, not_set, of_another}
+use Rattle.stop_gate.specs.Gates.{Gated, is_away, left, back_in, wanting, aways}
+use Rattle.stop_gate.proofs.Counts.{coming_back_takes, no_aways}
 
 module _ (t : Terms) where
   live_more : (log : List Event) (e : Event) → AreLive t log → AreLive t (log ++ e ∷ [])
   live_more log e live = λ worker. still_live t.image (start_in t) t.workers worker log e (start_lists t.image t.input) (live worker)
 
-  serves_more : (log : List Event) (e : Event) → TurnFits t.image (start_in t) t.workers log e → (spare : ℕ) → IsAmid t spare log
+  serves_more : (g : Gated) (log : List Event) (e : Event) → TurnFits t.image (start_in t) t.workers log e → (spare : ℕ) → IsAmid t spare g log
       → (before : List Event) (f : Event) (rest : List Event) → log ++ e ∷ [] ≡ before ++ f ∷ rest → TurnFits t.image (start_in t) t.workers before f
-  serves_more log e fits spare a = each-snoc (TurnFits t.image (start_in t) t.workers) log e a.served fits
+  serves_more g log e fits spare a = each-snoc (TurnFits t.image (start_in t) t.workers) log e a.served fits
 
-  -- ---- an open log that comes to rest
-  pub rest_amid : (log : List Event) → IsAtRest t log → IsAmid t 0 log
-  rest_amid log r = record { opened = r.settled.opened; served = r.served; bounded = r.bounded; live = r.live }
-
-  pub snap_rests : (log : List Event) → 0 < t.every → owes_snap t.every (state_in t log) (clock_of log) ≡ true → IsAmid t 3 log → IsAtRest t (log ++ Snap ∷ [])
-  snap_rests log some owed a = record {
-    settled = snapped t.image (start_in t) t.every 0 false log some owed a.opened;
-    served = serves_more log Snap tt 3 a;
-    bounded = bound_snaps t.image (start_in t) 0 0 log a.bounded;
-    live = live_more log Snap a.live;
+  -- ---- harts that are away
+  chosen_more : (g : Gated) (log : List Event) (e : Event) → ((worker : ℕ) → visits t.workers worker e ≡ false) → AreChosen t g log → AreChosen t g (log ++ e ∷ [])
+  chosen_more g log e none c = record {
+    next = λ h away. subst (λ (u : Option Turn). IsNext t.workers (h % t.workers) u h) (sym (other_turn t.image (start_in t) t.workers (h % t.workers) log e (none (h % t.workers)))) (c.next h away);
+    one = c.one;
   }
 
-  pub attempt_rests : (spare : ℕ) (log : List Event) → 0 < t.every → (clock_of log).pending ≡ true → IsAmid t spare log → IsAtRest t ((log ++ Retire ∷ []) ++ Replace ∷ [])
-  attempt_rests spare log some pending a =
+  pub chosen_left : (g : Gated) (log : List Event) (h : ℕ) → ((k : ℕ) → k % t.workers ≡ h % t.workers → is_away g k ≡ false)
+      → IsNext t.workers (h % t.workers) (turn_of t (h % t.workers) log) h → AreChosen t g log → AreChosen t (left h g) log
+  chosen_left g log h none next c = record {
+    next = λ k away. elim (same_or_other h k) [
+      | inl e ↦ subst (λ j. IsNext t.workers (j % t.workers) (turn_of t (j % t.workers) log) j) (sym e) next
+      | inr n ↦ c.next k (sym (other_left g h k n) ∙ away)
+    ];
+    one = λ k j away too same. elim (same_or_other h k) [
+      | inl e ↦ elim (same_or_other h j) [
+        | inl f ↦ e ∙ sym f
+        | inr n ↦ (let clash : true ≡ false = sym too ∙ other_left g h j n ∙ none j (sym same ∙ ap (λ i. i % t.workers) e) in absurd (cc))
+      ]
+      | inr n ↦ elim (same_or_other h j) [
+        | inl f ↦ (let clash : true ≡ false = sym away ∙ other_left g h k n ∙ none k (same ∙ ap (λ i. i % t.workers) f) in absurd (cc))
+        | inr m ↦ c.one k j (sym (other_left g h k n) ∙ away) (sym (other_left g h j m) ∙ too) same
+      ]
+    ];
+  }
+
+  pub chosen_back : (g : Gated) (log : List Event) (h : ℕ) → AreChosen t g log → AreChosen t (back_in h g) log
+  chosen_back g log h c = record {
+    next = λ k away. c.next k (still_away g h k away);
+    one = λ k j away too same. c.one k j (still_away g h k away) (still_away g h j too) same;
+  }
+
+  -- a visit of a hart whose worker has no other away
+  chosen_visited : (g : Gated) (log : List Event) (h n : ℕ) → ((k : ℕ) → k % t.workers ≡ h % t.workers → is_away g k ≡ false) → AreChosen t g log
+      → AreChosen t g (log ++ Real h n ∷ [])
+  chosen_visited g log h n none c = record {
+    next = λ k away. subst (λ (u : Option Turn). IsNext t.workers (k % t.workers) u k)
+        (sym (other_turn t.image (start_in t) t.workers (k % t.workers) log (Real h n) (of_another (h % t.workers) (k % t.workers)
+        (λ same. (let clash : true ≡ false = sym away ∙ none k (sym same) in absurd (cc)))))) (c.next k away);
+    one = c.one;
+  }
+
+  none_out : (g : Gated) (log : List Event) (h : ℕ) → AreChosen t g log → is_away g h ≡ true → (k : ℕ) → k % t.workers ≡ h % t.workers → is_away (back_in h g) k ≡ false
+  none_out g log h c away k same = not_set (is_away (back_in h g) k) (λ too. (
+      let is : k ≡ h = c.one k h (still_away g h k too) away same in
+      let clash : true ≡ false = sym too ∙ ap (is_away (back_in h g)) is ∙ is_back g h in absurd (cc)))
+
+  -- ---- an open log that comes to rest
+  pub rest_amid : (g : Gated) (log : List Event) → IsAtRest t g log → IsAmid t 0 g log
+  rest_amid g log r = record { opened = r.settled.opened; served = r.served; bounded = r.bounded; live = r.live; chosen = r.chosen }
+
+  pub snap_rests : (g : Gated) (log : List Event) → 0 < t.every → owes_snap t.every (state_in t log) (clock_of log) ≡ true → IsAmid t 3 g log → IsAtRest t g (log ++ Snap ∷ [])
+  snap_rests g log some owed a = record {
+    settled = snapped t.image (start_in t) t.every (aways g) g.wanted log some owed a.opened;
+    served = serves_more g log Snap tt 3 a;
+    bounded = bound_snaps t.image (start_in t) (aways g) 0 log a.bounded;
+    live = live_more log Snap a.live;
+    chosen = chosen_more g log Snap (λ worker. refl) a.chosen;
+  }
+
+  pub attempt_rests : (spare : ℕ) (g : Gated) (log : List Event) → 0 < t.every → (clock_of log).pending ≡ true → IsAmid t spare g log
+      → IsAtRest t (wanting false g) ((log ++ Retire ∷ []) ++ Replace ∷ [])
+  attempt_rests spare g log some pending a =
       let fits = TurnFits t.image (start_in t) t.workers in
       let both = (log ++ Retire ∷ []) ++ Replace ∷ [] in
       record {
-        settled = attempted t.image (start_in t) t.every 0 false log some pending a.opened;
+        settled = attempted t.image (start_in t) t.every (aways g) false log some pending a.opened;
         served = each-snoc fits (log ++ Retire ∷ []) Replace (each-snoc fits log Retire a.served tt) tt;
-        bounded = bound_rests t.image (start_in t) 0 spare both (bound_attempts t.image (start_in t) 0 spare log pending a.bounded);
+        bounded = bound_rests t.image (start_in t) (aways g) spare both (bound_attempts t.image (start_in t) (aways g) spare log pending a.bounded);
         live = live_more (log ++ Retire ∷ []) Replace (live_more log Retire a.live);
+        chosen = (let c = chosen_more g (log ++ Retire ∷ []) Replace (λ worker. refl) (chosen_more g log Retire (λ worker. refl) a.chosen) in record { next = c.next; one = c.one });
       }
 
-  pub nothing_rests : (spare : ℕ) (log : List Event) → owes_snap t.every (state_in t log) (clock_of log) ≡ false → is_overdue t.every (state_in t log) (clock_of log) ≡ false
-      → IsAmid t spare log → IsAtRest t log
-  nothing_rests spare log not_owed not_late a = record {
-    settled = rested t.image (start_in t) t.every 0 false log a.opened not_owed not_late;
+  pub nothing_rests : (spare : ℕ) (g : Gated) (log : List Event) → owes_snap t.every (state_in t log) (clock_of log) ≡ false → is_overdue t.every (state_in t log) (clock_of log) ≡ false
+      → IsAmid t spare g log → IsAtRest t g log
+  nothing_rests spare g log not_owed not_late a = record {
+    settled = rested t.image (start_in t) t.every (aways g) g.wanted log a.opened not_owed not_late;
     served = a.served;
-    bounded = bound_rests t.image (start_in t) 0 spare log a.bounded;
+    bounded = bound_rests t.image (start_in t) (aways g) spare log a.bounded;
     live = a.live;
+    chosen = a.chosen;
   }
 
-  pub over_rests : (spare : ℕ) (log : List Event) → is_some (state_in t log).outcome ≡ true → IsAmid t spare log → IsAtRest t log
-  over_rests spare log ended a = record {
-    settled = over t.image (start_in t) t.every 0 false log a.opened ended;
+  -- an attempt that waits for harts that are away
+  pub waits_rests : (spare : ℕ) (g : Gated) (log : List Event) → owes_snap t.every (state_in t log) (clock_of log) ≡ false → IsAmid t spare g log → IsAtRest t (wanting true g) log
+  waits_rests spare g log not_owed a = record {
+    settled = stop_wanted t.image (start_in t) t.every (aways g) log a.opened not_owed;
     served = a.served;
-    bounded = bound_rests t.image (start_in t) 0 spare log a.bounded;
+    bounded = bound_rests t.image (start_in t) (aways g) spare log a.bounded;
     live = a.live;
+    chosen = record { next = a.chosen.next; one = a.chosen.one };
   }
 
-  pub begins_rested : 0 < t.every → IsAtRest t []
-  begins_rested some = record {
-    settled = begun t.image (start_in t) t.every some;
-    served = each-nil (TurnFits t.image (start_in t) t.workers);
-    bounded = bound_begins t.image (start_in t);
-    live = λ worker. none_yet t.image (start_in t) t.workers worker;
+  pub over_rests : (spare : ℕ) (g : Gated) (log : List Event) → is_some (state_in t log).outcome ≡ true → IsAmid t spare g log → IsAtRest t g log
+  over_rests spare g log ended a = record {
+    settled = over t.image (start_in t) t.every (aways g) g.wanted log a.opened ended;
+    served = a.served;
+    bounded = bound_rests t.image (start_in t) (aways g) spare log a.bounded;
+    live = a.live;
+    chosen = a.chosen;
   }
 
-  -- ---- a visit
-  pub visit_amid : (log : List Event) (h n : ℕ) → is_some (state_in t log).outcome ≡ false → 1 ≤ length (state_in t log).harts → length log < entry_limit
-      → IsVisit t.image (state_in t log) h n → Serves t.image (start_in t) t.workers log h n → IsAtRest t log → IsAmid t 3 (log ++ Real h n ∷ [])
-  visit_amid log h n goes_on some room visit serves r = record {
-    opened = landed t.image (start_in t) t.every 0 false log h n (left t.image (start_in t) t.every 0 log r.settled goes_on some) visit;
+  pub begins_rested : (g : Gated) → ((h : ℕ) → is_away g h ≡ false) → 0 < t.every → IsAtRest t g []
+  begins_rested g none some =
+      let empty : 0 ≡ aways g = sym (no_aways g none) in
+      record {
+        settled = calm_too g.wanted (subst (λ n. IsSettled t.image (start_in t) t.every n false []) empty (begun t.image (start_in t) t.every some));
+        served = each-nil (TurnFits t.image (start_in t) t.workers);
+        bounded = subst (λ n. IsBounded t.image (start_in t) n 0 []) empty (bound_begins t.image (start_in t));
+        live = λ worker. none_yet t.image (start_in t) t.workers worker;
+        chosen = record { next = λ h away. (let no = none h in let clash : true ≡ false = sym away ∙ no in absurd (cc)); one = λ h k away too same. (let no = none h in let clash : true ≡ false = sym away ∙ no in absurd (cc)) };
+      }
+    where
+      calm_too : (b : Bool) → IsSettled t.image (start_in t) t.every (aways g) false [] → IsSettled t.image (start_in t) t.every (aways g) b []
+      calm_too b s = record { opened = s.opened; no_snap_owed = s.no_snap_owed; not_overdue = λ _. s.not_overdue refl }
+
+  -- ---- a hart that leaves
+  pub leaves_rested : (g : Gated) (log : List Event) (h : ℕ) → g.wanted ≡ false → aways (left h g) ≡ aways g + 1 → is_some (state_in t log).outcome ≡ false
+      → aways g + 1 ≤ length (state_in t log).harts → length log < entry_limit → ((k : ℕ) → k % t.workers ≡ h % t.workers → is_away g k ≡ false)
+      → IsNext t.workers (h % t.workers) (turn_of t (h % t.workers) log) h → IsAtRest t g log → IsAtRest t (left h g) log
+  leaves_rested g log h calm more goes_on room few none next r = record {
+    settled = subst (λ b. IsSettled t.image (start_in t) t.every (aways (left h g)) b log) (sym calm)
+        (subst (λ n. IsSettled t.image (start_in t) t.every n false log) (sym more)
+        (kept.left t.image (start_in t) t.every (aways g) log (subst (λ b. IsSettled t.image (start_in t) t.every (aways g) b log) calm r.settled) goes_on room));
+    served = r.served;
+    bounded = subst (λ n. IsBounded t.image (start_in t) n 0 log) (sym more) (bound_leaves t.image (start_in t) (aways g) log few room);
+    live = r.live;
+    chosen = chosen_left g log h none next r.chosen;
+  }
+
+  -- ---- a hart that comes home
+  pub lands_amid : (g : Gated) (log : List Event) (h n : ℕ) → is_away g h ≡ true → IsVisit t.image (state_in t log) h n → Serves t.image (start_in t) t.workers log h n
+      → IsAtRest t g log → IsAmid t 3 (back_in h g) (log ++ Real h n ∷ [])
+  lands_amid g log h n away visit serves r =
+      let fewer : aways g ≡ aways (back_in h g) + 1 = sym (coming_back_takes g h away) in
+      record {
+        opened = landed t.image (start_in t) t.every (aways (back_in h g)) g.wanted log h n (subst (λ k. IsSettled t.image (start_in t) t.every k g.wanted log) fewer r.settled) visit;
+        served = each-snoc (TurnFits t.image (start_in t) t.workers) log (Real h n) r.served serves;
+        bounded = bound_lands t.image (start_in t) (aways (back_in h g)) 0 log h n (subst (λ k. IsBounded t.image (start_in t) k 0 log) fewer r.bounded);
+        live = live_more log (Real h n) r.live;
+        chosen = chosen_visited (back_in h g) log h n (none_out g log h r.chosen away) (chosen_back g log h r.chosen);
+      }
+
+  -- one that brought nothing
+  pub nothing_lands : (g : Gated) (log : List Event) (h : ℕ) → is_away g h ≡ true → IsAtRest t g log → IsAmid t 3 (back_in h g) log
+  nothing_lands g log h away r =
+      let fewer : aways g ≡ aways (back_in h g) + 1 = sym (coming_back_takes g h away) in
+      let settled = given_up t.image (start_in t) t.every (aways (back_in h g)) g.wanted log (subst (λ k. IsSettled t.image (start_in t) t.every k g.wanted log) fewer r.settled) in
+      let bounded = subst (λ k. IsBounded t.image (start_in t) k 0 log) fewer r.bounded in
+      record {
+        opened = settled.opened;
+        served = r.served;
+        bounded = record { entries = (let was = bounded.entries in omega (arith, was)) };
+        live = r.live;
+        chosen = chosen_back g log h r.chosen;
+      }
+
+  -- ---- a visit that leaves no lock section
+  pub visit_amid : (g : Gated) (log : List Event) (h n : ℕ) → g.wanted ≡ false → is_some (state_in t log).outcome ≡ false → aways g + 1 ≤ length (state_in t log).harts
+      → length log < entry_limit → ((k : ℕ) → k % t.workers ≡ h % t.workers → is_away g k ≡ false)
+      → IsVisit t.image (state_in t log) h n → Serves t.image (start_in t) t.workers log h n → IsAtRest t g log → IsAmid t 3 g (log ++ Real h n ∷ [])
+  visit_amid g log h n calm goes_on room few none visit serves r = record {
+    opened = visited t.image (start_in t) t.every (aways g) log h n (subst (λ b. IsSettled t.image (start_in t) t.every (aways g) b log) calm r.settled) room visit;
     served = each-snoc (TurnFits t.image (start_in t) t.workers) log (Real h n) r.served serves;
-    bounded = bound_lands t.image (start_in t) 0 0 log h n (bound_leaves t.image (start_in t) 0 log room some);
+    bounded = bound_lands t.image (start_in t) (aways g) 0 log h n (bound_leaves t.image (start_in t) (aways g) log few room);
     live = live_more log (Real h n) r.live;
+    chosen = chosen_visited g log h n none r.chosen;
   }
 
   -- ---- limits
-  pub limit_retires : (log : List Event) → IsLimited t.image (start_in t) t.limit 0 log → IsLimited t.image (start_in t) t.limit 0 (log ++ Retire ∷ [])
-  limit_retires log l = record {
-    steps = grown t.image (start_in t) log Retire (λ (s : State) (c : Clock). c.real + visit_limit * 0 < t.limit + visit_limit * length s.harts) l.steps;
+  pub limit_retires : (away : ℕ) (log : List Event) → IsLimited t.image (start_in t) t.limit away log → IsLimited t.image (start_in t) t.limit away (log ++ Retire ∷ [])
+  limit_retires away log l = record {
+    steps = grown t.image (start_in t) log Retire (λ (s : State) (c : Clock). c.real + visit_limit * away < t.limit + visit_limit * length s.harts) l.steps;
   }
 
-  pub limit_replaces : (log : List Event) → IsLimited t.image (start_in t) t.limit 0 log → IsLimited t.image (start_in t) t.limit 0 (log ++ Replace ∷ [])
-  limit_replaces log l = record {
-    steps = grown t.image (start_in t) log Replace (λ (s : State) (c : Clock). c.real + visit_limit * 0 < t.limit + visit_limit * length s.harts) l.steps;
+  pub limit_replaces : (away : ℕ) (log : List Event) → IsLimited t.image (start_in t) t.limit away log → IsLimited t.image (start_in t) t.limit away (log ++ Replace ∷ [])
+  limit_replaces away log l = record {
+    steps = grown t.image (start_in t) log Replace (λ (s : State) (c : Clock). c.real + visit_limit * away < t.limit + visit_limit * length s.harts) l.steps;
   }
 
-  pub limit_snapped : (log : List Event) → IsLimited t.image (start_in t) t.limit 0 log → IsLimited t.image (start_in t) t.limit 0 (log ++ Snap ∷ [])
-  limit_snapped log l = limit_snaps t.image (start_in t) t.limit 0 log l
+  pub limit_snapped : (away : ℕ) (log : List Event) → IsLimited t.image (start_in t) t.limit away log → IsLimited t.image (start_in t) t.limit away (log ++ Snap ∷ [])
+  limit_snapped away log l = limit_snaps t.image (start_in t) t.limit away log l
 
-  pub limit_visited : (log : List Event) (h n : ℕ) → n ≤ visit_limit → (clock_of log).real < t.limit → 1 ≤ length (state_in t log).harts
-      → IsLimited t.image (start_in t) t.limit 0 (log ++ Real h n ∷ [])
-  limit_visited log h n most below some = limit_lands t.image (start_in t) t.limit 0 log h n most (limit_leaves t.image (start_in t) t.limit 0 log below some)
+  pub limit_visited : (away : ℕ) (log : List Event) (h n : ℕ) → n ≤ visit_limit → (clock_of log).real < t.limit → away + 1 ≤ length (state_in t log).harts
+      → IsLimited t.image (start_in t) t.limit away (log ++ Real h n ∷ [])
+  limit_visited away log h n most below room = limit_lands t.image (start_in t) t.limit away log h n most (limit_leaves t.image (start_in t) t.limit away log below room)
 
   -- ---- the harts that were served last
   pub last_more : (last : List (Option ℕ)) (log : List Event) (e : Event) → ((worker : ℕ) → visits t.workers worker e ≡ false) → AreLast t last log → AreLast t last (log ++ e ∷ [])

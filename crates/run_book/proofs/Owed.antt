@@ -4,6 +4,7 @@ use Rattle.std.specs.Prelude.{nat_le, not, ◌&&◌, is_some, if◌then◌else�
 use Rattle.machine.specs.States.{State}
 use Rattle.pacing.specs.Clocks.{Clock}
 use Rattle.pacing.specs.Pacing.{owes_snap}
+use Rattle.pacing.specs.Keeping.{is_overdue}
 use Rattle.recorder.specs.declared.marks.Marks.{Marks}
 use Rattle.recorder.specs.declared.marks.Due.{Due}
 use Rattle.recorder.specs.declared.marks.Due.TheVariants.{Nothing, Snap, Pending, Overdue}
@@ -29,3 +30,22 @@ module _ (every real : ℕ) (m : Marks) (c : Clock) (s : State) (marked : IsMark
       by_test true false d is = absurd (cc)
       by_test false b true is = refl
       by_test false b false is = absurd (cc)
+
+  pub not_owed : (due_of every real m ≡ Snap → ⊥) → owes_snap every s c ≡ false
+  not_owed n = owes_by ∙ by_test m.pending (nat_le (every + m.snapped_at) real) long n
+    where
+      by_test : (a b d : Bool) → (tested a b d ≡ Snap → ⊥) → (not a && d && not false) ≡ false
+      by_test true b d n = refl
+      by_test false b true n = absurd (n refl)
+      by_test false b false n = refl
+
+  late_by : is_overdue every s c ≡ (m.pending && nat_le (every + m.snapped_at) real && not false)
+  late_by = λ i. marked.pending i && nat_le (every + marked.snapped_at i) (marked.real_is i) && not (goes_on i)
+
+  pub not_late : (due_of every real m ≡ Overdue → ⊥) → is_overdue every s c ≡ false
+  not_late n = late_by ∙ by_test m.pending (nat_le (every + m.snapped_at) real) long n
+    where
+      by_test : (a b d : Bool) → (tested a b d ≡ Overdue → ⊥) → (a && b && not false) ≡ false
+      by_test true true d n = absurd (n refl)
+      by_test true false d n = refl
+      by_test false b d n = refl

@@ -11,15 +11,17 @@ use Rattle.run_book.specs.declared.running.Running.{Running}
 use Rattle.run_book.specs.Terms.{Terms, AreFair}
 use Rattle.run_book.specs.Told.{told}
 use Rattle.run_book.specs.Sections.{IsRunOf, IsAmid, IsAtRest, AreLast, IsChosen}
+use Rattle.stop_gate.specs.Gates.{Gated, is_away}
 
 -- What a lock lets see of the book: the run so far, whether being out of memory has ended it, how many snapshots were taken, whether no
--- placer has taken the last one yet, and the plan that has come.
+-- placer has taken the last one yet, the plan that has come, and how many harts came home as strangers.
 pub record Booked : Type 0 where
   pub world : Recorded
   pub spent : Bool
   pub number : ℕ
   pub has_job : Bool
   pub plan : Option Answer
+  pub strangers : ℕ
 
 -- what a worker holds of the ledger: so many parts, and the real steps that it has counted
 pub record Held : Type 0 where
@@ -38,7 +40,7 @@ pub record IsBook (t : Terms) (total : ℕ) (r : Running) : Type 0 where
   pub terms : HasTerms t r
   pub run : IsRunOf t r.recorder
   pub sum : total ≡ r.recorder.at.counts.real
-  pub rests : r.spent ≡ false → IsAtRest t (told r.recorder)
+  pub rests : r.spent ≡ false → IsAtRest t r.recorder.gate (told r.recorder)
   pub last : r.spent ≡ false → AreLast t r.last.items (told r.recorder)
 
 -- the same right after a visit
@@ -46,8 +48,12 @@ pub record IsVisited (t : Terms) (total : ℕ) (r : Running) : Type 0 where
   pub terms : HasTerms t r
   pub run : IsRunOf t r.recorder
   pub sum : total ≡ r.recorder.at.counts.real
-  pub amid : r.spent ≡ false → IsAmid t 3 (told r.recorder)
+  pub amid : r.spent ≡ false → IsAmid t 3 r.recorder.gate (told r.recorder)
   pub last : r.spent ≡ false → AreLast t r.last.items (told r.recorder)
+
+-- none of a worker's harts is away
+abbrev pub NoneOut : (workers worker : ℕ) → Gated → Type 0
+NoneOut workers worker g = (h : ℕ) → h % workers ≡ worker → is_away g h ≡ false
 
 -- hart h is the one that a worker serves next
 pub record MayServe (worker h : ℕ) (r : Running) : Type 0 where

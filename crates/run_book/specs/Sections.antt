@@ -1,4 +1,4 @@
--- What is kept of a run, and of its log inside a lock section and between two. Source: this project.
+-- What is kept of a run, and of its log inside a lock section and between two, while harts may be away. Source: this project.
 use Rattle.std.specs.Prelude.{◌≡◌, ℕ, ◌+◌, ◌-◌, ◌^◌, ◌%◌, ◌<◌, min, true, false, is_some, List, length, slice_get, Option, Some, None}
 use Rattle.std.specs.Option.{option_map}
 use Rattle.placer.specs.Planned.{IsPlanFor}
@@ -9,14 +9,15 @@ use Rattle.machine.specs.Harts.{is_live, hart_in}
 use Rattle.machine.specs.States.{State}
 use Rattle.pacing.specs.Limits.{entry_limit}
 use Rattle.pacing.specs.Clocks.{Clock, clock_of}
-use Rattle.pacing.specs.Serving.{Turn, last_turn, NoneBefore, Served}
+use Rattle.pacing.specs.Serving.{Turn, last_turn, NoneBefore, IsNext, Served}
 use Rattle.pacing.specs.Keeping.{IsOpen, IsSettled, StillLive}
 use Rattle.pacing.specs.Bounds.{IsLimited, IsBounded}
 use Rattle.recorder.specs.declared.marks.Marks.{Marks}
 use Rattle.recorder.specs.Recording.{Recorded}
+use Rattle.stop_gate.specs.Gates.{Gated, is_away, aways}
 use Rattle.world.specs.Worlds.{Related, started}
 use Rattle.run_book.specs.Terms.{Terms, start_in, state_in}
-use Rattle.run_book.specs.Told.{told, MakesAll}
+use Rattle.run_book.specs.Told.{told, MakesAll, BeginsWith}
 
 -- the count and the marks of a recorder are those of its log's clock
 pub record IsMarked (c : Clock) (real : ℕ) (m : Marks) : Type 0 where
@@ -29,12 +30,14 @@ pub record IsMarked (c : Clock) (real : ℕ) (m : Marks) : Type 0 where
 pub record IsRunOf (t : Terms) (r : Recorded) : Type 0 where
   -- the world is what its log makes of the start
   pub made : MakesAll (told r) (started t.image t.ring t.input) r.at
+  pub begins : BeginsWith (told r) t.begins
   -- it stands for the state to which the original machine comes by the log's real steps
   pub related : Related r.at (state_in t (told r))
   pub image : r.at.image ≡ t.image
   pub marked : IsMarked (clock_of (told r)) r.at.counts.real r.marks
   pub closed : r.journal.is_open ≡ false
-  pub limited : IsLimited t.image (start_in t) t.limit 0 (told r)
+  -- a whole visit of each hart that is away is still within the limit
+  pub limited : IsLimited t.image (start_in t) t.limit (aways r.gate) (told r)
 
 abbrev pub turn_of : Terms → (worker : ℕ) → List Event → Option Turn
 turn_of t worker log = last_turn t.image t.workers worker (start_in t) log
@@ -43,19 +46,26 @@ turn_of t worker log = last_turn t.image t.workers worker (start_in t) log
 abbrev pub AreLive : Terms → List Event → Type 0
 AreLive t log = (worker : ℕ) → StillLive t.workers worker (turn_of t worker log) (state_in t log)
 
--- the log inside a lock section, with so many entries to spare: a Snap or an attempt may be owed
-pub record IsAmid (t : Terms) (spare : ℕ) (log : List Event) : Type 0 where
-  pub opened : IsOpen t.image (start_in t) t.every 0 log
-  pub served : Served t.image (start_in t) t.workers log
-  pub bounded : IsBounded t.image (start_in t) 0 spare log
-  pub live : AreLive t log
+-- a hart that is away is the next of its worker, and the only one of it that is away
+pub record AreChosen (t : Terms) (g : Gated) (log : List Event) : Type 0 where
+  pub next : (h : ℕ) → is_away g h ≡ true → IsNext t.workers (h % t.workers) (turn_of t (h % t.workers) log) h
+  pub one : (h k : ℕ) → is_away g h ≡ true → is_away g k ≡ true → h % t.workers ≡ k % t.workers → h ≡ k
 
--- the log between two of them: nothing is owed
-pub record IsAtRest (t : Terms) (log : List Event) : Type 0 where
-  pub settled : IsSettled t.image (start_in t) t.every 0 false log
+-- the log inside a lock section, with so many entries to spare: a Snap or an attempt may be owed
+pub record IsAmid (t : Terms) (spare : ℕ) (g : Gated) (log : List Event) : Type 0 where
+  pub opened : IsOpen t.image (start_in t) t.every (aways g) log
   pub served : Served t.image (start_in t) t.workers log
-  pub bounded : IsBounded t.image (start_in t) 0 0 log
+  pub bounded : IsBounded t.image (start_in t) (aways g) spare log
   pub live : AreLive t log
+  pub chosen : AreChosen t g log
+
+-- the log between two of them: nothing is owed, or else a stop is wanted
+pub record IsAtRest (t : Terms) (g : Gated) (log : List Event) : Type 0 where
+  pub settled : IsSettled t.image (start_in t) t.every (aways g) g.wanted log
+  pub served : Served t.image (start_in t) t.workers log
+  pub bounded : IsBounded t.image (start_in t) (aways g) 0 log
+  pub live : AreLive t log
+  pub chosen : AreChosen t g log
 
 -- each worker's last hart
 abbrev pub AreLast : Terms → List (Option ℕ) → List Event → Type 0

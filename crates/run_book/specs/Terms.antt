@@ -6,6 +6,7 @@ use Rattle.machine.specs.Start.{start_of}
 use Rattle.machine.specs.States.{State}
 use Rattle.pacing.specs.Logs.{state_at}
 
+-- `begins` is what the log begins with: nothing for a whole run.
 pub record Terms : Type 0 where
   pub image : Picture
   pub input : List ℕ
@@ -13,6 +14,7 @@ pub record Terms : Type 0 where
   pub workers : ℕ
   pub every : ℕ
   pub limit : ℕ
+  pub begins : List Event
 
 -- the most workers, and the greatest number of steps between snapshots and of a run
 abbrev pub most_workers : ℕ

@@ -1,5 +1,5 @@
 -- The log of a threaded run as it is told, and what it makes of a world. Source: this project.
-use Rattle.std.specs.Prelude.{◌≡◌, List, [], ◌∷◌, map, replicate}
+use Rattle.std.specs.Prelude.{◌≡◌, List, [], ◌∷◌, ◌++◌, map, replicate}
 use Rattle.placer.specs.Planned.{IsPlanFor}
 use Rattle.plans.specs.declared.plan.Moved.{Moved}
 use Rattle.sched_log.specs.declared.event.Event.{Event}
@@ -31,3 +31,7 @@ Makes (Given plan) w v = ⊥
 abbrev pub MakesAll : List Event → Replaced → Replaced → Type 0
 MakesAll [] w v = v ≡ w
 MakesAll (e ∷ es) w v = (u : Replaced) × Makes e w u × MakesAll es u v
+
+-- a log begins with these entries
+abbrev pub BeginsWith : (log first : List Event) → Type 0
+BeginsWith log first = (more : List Event) × (log ≡ first ++ more)

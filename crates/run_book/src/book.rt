@@ -1,6 +1,6 @@
 //! The book behind the lock, whose world is the run of its own log.
 
-ghost use Rattle.std.specs.Prelude.{◌≡◌, ◌≢◌, ◌<◌, ◌≤◌, ◌+◌, ◌*◌, true, false, None, Some, IfSome, IfOk, length};
+ghost use Rattle.std.specs.Prelude.{◌≡◌, ◌≢◌, ◌<◌, ◌≤◌, ◌+◌, ◌*◌, [], true, false, None, Some, IfSome, IfOk, is_some, length};
 ghost use Rattle.world.specs.Worlds.{started};
 ghost use Rattle.pacing.specs.Clocks.{reals};
 ghost use Rattle.pacing.specs.Limits.{visit_limit, entry_limit, visit_entries};
@@ -9,11 +9,12 @@ ghost use Rattle.pacing.specs.Serving.{Served};
 ghost use Rattle.run_book.specs.Booked.{IsBook, Ends, IsDone, HasLive};
 ghost use Rattle.run_book.specs.Sections.{FitsNow, IsRunOf, GoesOn};
 ghost use Rattle.run_book.specs.Terms.{AreFair, start_in};
-ghost use Rattle.run_book.specs.Told.{told};
+ghost use Rattle.run_book.specs.Told.{told, BeginsWith};
 
 use crate::ended::Ended;
 use crate::hand::Hand;
-use crate::running::Running;
+use crate::running::{Begun, Running};
+use ahead::away::Away;
 use branch_ring::profile::Profile;
 use oc_base::fault::NoMemory;
 use placer::placed::{Job, Named, Placed};
@@ -36,7 +37,7 @@ pub trait Run: Ledger + Named {
 impl Run for Brand {
     ghost use Rattle.std.specs.Prelude.{[]};
 
-    ghost terms = { record { image = record { texts = []; parts = []; entry = 0; region = record { from = 0; to = 0 }; funcs = []; sites = []; pairs = []; slots = []; headers = (0, 0) }; input = []; ring = 1; workers = 1; every = 1; limit = 1 } };
+    ghost terms = { record { image = record { texts = []; parts = []; entry = 0; region = record { from = 0; to = 0 }; funcs = []; sites = []; pairs = []; slots = []; headers = (0, 0) }; input = []; ring = 1; workers = 1; every = 1; limit = 1; begins = [] } };
 }
 
 /// The book behind the lock: the run so far, and the plan that has come from the placer. Its ledger counts the real steps.
@@ -57,7 +58,7 @@ impl<J: Run> Model for Book<J> {
 
     ghost coded = { Prim.hlevel (codes, memory_code) };
 
-    ghost view = { λ b. record { world = b.run.recorder; spent = b.run.spent; number = b.run.number; has_job = b.run.has_job; plan = b.plan } };
+    ghost view = { λ b. record { world = b.run.recorder; spent = b.run.spent; number = b.run.number; has_job = b.run.has_job; plan = b.plan; strangers = b.run.strangers } };
 
     ghost invariant = { λ b. IsBook J.terms b.total.total b.run × (J.image ≡ J.terms.image) };
 }
@@ -83,17 +84,17 @@ fn is_pending(recorder: &Recorder, every: u64) -> bool
     matches!(recorder.due(every), Due::Pending | Due::Overdue)
 }
 
-/// The plan that has come, where it is the one of the pending snapshot. Any other is dropped.
-fn plan_now<J: Run>(
+/// The plan that has come, where it is the one of the pending snapshot.
+fn plan_now<'a, J: Run>(
     recorder: &Recorder,
     every: u64,
     number: u64,
-    plan: Option<Placed<J>>,
-) -> Option<Plan>
+    plan: &'a Option<Placed<J>>,
+) -> Option<&'a Plan>
     requires { recorder.now.at.image ≡ J.image }
-    ensures { IfSome result (λ m. FitsNow m recorder.now) }
+    ensures { IfSome result (λ m. FitsNow m.now recorder.now) }
 {
-    let placed = plan?;
+    let placed = plan.as_ref()?;
     if !is_pending(recorder, every) {
         return None;
     }
@@ -102,7 +103,7 @@ fn plan_now<J: Run>(
     {
         return None;
     }
-    Some(placed.into_plan())
+    Some(placed.plan())
 }
 
 impl<J: Run> Book<J> {
@@ -117,6 +118,7 @@ impl<J: Run> Book<J> {
     ) -> Result<Book<J>, NoMemory>
         requires fair { AreFair J.terms }
         requires image { J.image ≡ J.terms.image }
+        requires whole { J.terms.begins ≡ [] }
         requires world { world ≡ started J.terms.image J.terms.ring J.terms.input }
         requires workers { workers ≡ J.terms.workers }
         requires every { every ≡ J.terms.every }
@@ -130,6 +132,20 @@ impl<J: Run> Book<J> {
             plan: None,
             total,
         })
+    }
+
+    /// The world so far.
+    pub fn world(&self) -> &World
+        ensures { result.now ≡ self.now.world.at }
+    {
+        self.run.recorder.world()
+    }
+
+    /// The book's run is one by its terms, for a caller's proof. It does nothing.
+    pub fn kept(&self)
+        ensures { IsRunOf J.terms self.now.world }
+    {
+        let _ = &self.run;
     }
 
     /// Nothing is left to do.
@@ -163,25 +179,89 @@ impl<J: Run> Book<J> {
         self.run.next(worker).is_some()
     }
 
-    /// One lock section of a worker: the attempt of the pending snapshot, where its plan has come, a visit, and what is due after it.
+    /// Whether a visit of a worker may begin now: one of its harts is live, none is away, no stop is wanted, and something is left to do. An
+    /// attempt that is due is made before.
+    pub fn can_begin(&self, worker: u32) -> bool
+        ensures live { result ≡ true → HasLive J.terms.workers worker self.now.world.at.machine }
+        ensures calm { result ≡ true → self.now.world.gate.wanted ≡ false }
+    {
+        !self.run.is_done() && self.run.may_begin(worker).is_some()
+    }
+
+    /// How many harts came home as strangers, at most 2^64 - 1. In a run without faults none does.
+    pub fn strangers(&self) -> u64
+        ensures { result ≡ self.now.strangers }
+    {
+        self.run.strangers
+    }
+
+    /// The lock section that begins a visit: the attempt of the pending snapshot, where its plan has come or it is overdue, and then the
+    /// worker's next hart leaves. While another hart is away, no attempt is made: a stop is wanted until one is, and no hart leaves.
+    pub fn begin(&mut self, alloc: Global, worker: u32) -> Begun
+        ensures real { self.new.world.at.counts.real ≡ self.old.world.at.counts.real }
+        ensures done { IsDone J.terms.limit self.old → self.new ≡ self.old }
+        ensures grows { BeginsWith (told self.new.world) (told self.old.world) }
+    {
+        if self.run.is_done() {
+            return Begun::Nothing;
+        }
+        let Book { run, plan, .. } = self;
+        let plan = plan_now(&run.recorder, run.every, run.number, plan);
+        run.begin(alloc, worker, plan)
+    }
+
+    /// The lock section that ends a visit: the hart comes home, the rest of its visit is made, and then what is due. A stranger brings
+    /// nothing. Out of memory, and where the run has an outcome, the hart is given up.
+    pub fn end(&mut self, alloc: Global, away: Away, mine: &mut Hand<J>)
+        requires { 0 < mine.old.parts }
+        ensures parts { mine.new.parts ≡ mine.old.parts }
+        ensures made { mine.new.made + self.old.world.at.counts.real ≡ mine.old.made + self.new.world.at.counts.real }
+        ensures spent { self.old.spent ≡ true → self.new ≡ self.old }
+        ensures over { is_some self.old.world.at.machine.outcome ≡ true → self.new ≡ self.old }
+        ensures grows { BeginsWith (told self.new.world) (told self.old.world) }
+    {
+        if self.run.spent || self.run.recorder.world().outcome().is_some() {
+            return;
+        }
+        if !self.run.recorder.is_away(away.hart()) {
+            self.run.count_stranger();
+            return;
+        }
+        let Book {
+            run,
+            plan,
+            total,
+            ..
+        } = self;
+        let made = run.land(away);
+        let plan = plan_now(&run.recorder, run.every, run.number, plan);
+        run.settle(alloc, plan);
+        let _real = run.recorder.world().real();
+        mine.count(total, made);
+    }
+
+    /// One lock section of a worker with a whole visit: the attempt of the pending snapshot, where its plan has come or it is overdue, a
+    /// visit, and what is due after it.
     pub fn section(&mut self, alloc: Global, worker: u32, mine: &mut Hand<J>)
         requires { 0 < mine.old.parts }
         ensures parts { mine.new.parts ≡ mine.old.parts }
         ensures made { mine.new.made + self.old.world.at.counts.real ≡ mine.old.made + self.new.world.at.counts.real }
         ensures done { IsDone J.terms.limit self.old → self.new ≡ self.old }
+        ensures grows { BeginsWith (told self.new.world) (told self.old.world) }
     {
         if self.run.is_done() {
             return;
         }
-        let plan = plan_now(
-            &self.run.recorder,
-            self.run.every,
-            self.run.number,
-            self.plan.take(),
-        );
-        let made = self.run.section(alloc, worker, plan);
-        let _real = self.run.recorder.world().real();
-        mine.count(&mut self.total, made);
+        let Book {
+            run,
+            plan,
+            total,
+            ..
+        } = self;
+        let plan = plan_now(&run.recorder, run.every, run.number, plan);
+        let made = run.section(alloc, worker, plan);
+        let _real = run.recorder.world().real();
+        mine.count(total, made);
     }
 
     /// Whether no placer has taken the last snapshot yet.
@@ -210,6 +290,7 @@ impl<J: Run> Book<J> {
     pub fn put_plan(&mut self, plan: Placed<J>)
         ensures kept { plan.job.number ≡ self.old.number → self.new ≡ record self.old { plan = Some plan } }
         ensures dropped { plan.job.number ≢ self.old.number → self.new ≡ self.old }
+        ensures world { self.new.world ≡ self.old.world }
     {
         if plan.job().number == self.run.number {
             self.plan = Some(plan);

@@ -2,8 +2,10 @@
 
 ghost use Rattle.std.specs.Prelude.{◌≡◌, ◌≤◌, ◌<◌, ◌%◌, ℕ, true, false, is_none, IfSome};
 ghost use Rattle.machine.specs.Harts.{is_live, hart_in};
+ghost use Rattle.run_book.specs.Booked.{NoneOut};
 ghost use Rattle.run_book.specs.Sections.{begins_at, IsChosen};
 
+use recorder::recorder::Recorder;
 use world::world::World;
 
 /// The first live hart of a worker in a range.
@@ -42,4 +44,18 @@ pub fn next(world: &World, workers: u32, worker: u32, served: Option<u32>) -> Op
         Some(h) => Some(h),
         None => first_live(world, workers, worker, 0, from),
     }
+}
+
+/// Whether one of a worker's harts is away.
+pub fn has_out(recorder: &Recorder, workers: u32, worker: u32) -> bool
+    requires { 0 < workers }
+    ensures { result ≡ false → NoneOut workers worker recorder.now.gate }
+{
+    recorder.kept();
+    for h in 0..recorder.world().made() {
+        if h % workers == worker && recorder.is_away(h) {
+            return true;
+        }
+    }
+    false
 }

@@ -1,22 +1,35 @@
 //! The run that a book keeps, and its lock sections.
 
-ghost use Rattle.std.specs.Prelude.{◌≡◌, ◌<◌, ◌+◌, ℕ, true, false, None, IfOk, IfSome, is_some, replicate};
+ghost use Rattle.std.specs.Prelude.{◌≡◌, ◌<◌, ◌≤◌, ◌+◌, ℕ, [], true, false, None, IfOk, IfSome, is_some, length, replicate};
 ghost use Rattle.world.specs.Worlds.{started};
 ghost use Rattle.recorder.specs.Recording.{HasNoEvents};
-ghost use Rattle.run_book.specs.Booked.{IsBook, IsVisited, MayServe, Ends, HasEnded};
+ghost use Rattle.stop_gate.specs.Gates.{is_away};
+ghost use Rattle.run_book.specs.Booked.{IsBook, IsVisited, NoneOut, MayServe, Ends, HasEnded};
 ghost use Rattle.run_book.specs.Sections.{FitsNow, GoesOn};
 ghost use Rattle.run_book.specs.Terms.{Terms, AreFair};
 
-use crate::attempt::attempt;
 use crate::ended::Ended;
-use crate::next::next;
-use crate::settle::{Settled, settle};
+use crate::next::{has_out, next};
+use crate::settle::{Settled, catch_up, settle};
 use crate::turn::turn;
+use ahead::away::Away;
 use oc_base::fault::NoMemory;
 use plans::plan::Plan;
+use recorder::fault::AwayFault;
 use recorder::recorder::Recorder;
 use std::alloc::Global;
 use world::world::World;
+
+/// What a lock section that begins a visit did.
+#[derive(Drop)]
+pub enum Begun {
+    /// A hart has left.
+    Left(Away),
+    /// A stop is wanted: no visit begins until the attempt has been made.
+    Held,
+    /// None of the worker's harts is live, one of them is away, or nothing is left to do.
+    Nothing,
+}
 
 /// With so many entries in the log no visit begins.
 const ENTRY_LIMIT: usize = 16_000_000;
@@ -33,6 +46,7 @@ pub struct Running {
     pub spent: bool,
     pub number: u64,
     pub has_job: bool,
+    pub strangers: u64,
 }
 
 /// No hart served, for each of so many workers.
@@ -57,12 +71,13 @@ impl Running {
     ) -> Result<Running, NoMemory>
         requires { HasNoEvents world }
         ensures begins { IfOk result (λ r. r.spent ≡ false) }
-        ensures book { IfOk result (λ r. (t : Terms) → AreFair t → world ≡ started t.image t.ring t.input → workers ≡ t.workers → every ≡ t.every → limit ≡ t.limit → IsBook t 0 r) }
+        ensures book { IfOk result (λ r. (t : Terms) → AreFair t → t.begins ≡ [] → world ≡ started t.image t.ring t.input → workers ≡ t.workers → every ≡ t.every → limit ≡ t.limit → IsBook t 0 r) }
     {
         world.kept();
         let last = none_served(alloc, workers)?;
+        let recorder = Recorder::keep_log(alloc, world)?;
         Ok(Running {
-            recorder: Recorder::keep_log(alloc, world),
+            recorder,
             workers,
             every,
             limit,
@@ -70,6 +85,7 @@ impl Running {
             spent: false,
             number: 0,
             has_job: false,
+            strangers: 0,
         })
     }
 
@@ -119,30 +135,30 @@ impl Running {
         next(self.recorder.world(), self.workers, worker, *served)
     }
 
-    /// Makes the attempt of the pending snapshot, if its plan has come.
-    fn use_plan(&mut self, plan: Option<Plan>)
+    /// Makes the attempt that is due before a visit. Where a hart is away, a stop is wanted instead.
+    fn catch_up(&mut self, alloc: Global, plan: Option<&Plan>)
         requires goes_on { is_some self.old.recorder.at.machine.outcome ≡ false }
         requires spent { self.old.spent ≡ false }
-        requires fits { IfSome plan (λ m. FitsNow m self.old.recorder) }
+        requires fits { IfSome plan (λ m. FitsNow m.now self.old.recorder) }
         ensures { (t : Terms) (total : ℕ) → IsBook t total self.old → IsBook t total self.new }
     {
-        let Some(plan) = plan else {
-            return;
-        };
-        match attempt(&mut self.recorder, &plan) {
+        match catch_up(&mut self.recorder, alloc, self.every, plan) {
             Ok(()) => {}
             Err(NoMemory) => self.spent = true,
         }
     }
 
-    /// The visit of hart `h` by a worker. It says how many real steps were made.
+    /// The visit of hart `h` by a worker, under the lock. It says how many real steps were made.
     fn visit(&mut self, worker: u32, h: u32) -> u64
         requires goes_on { GoesOn self.old.limit self.old.recorder }
         requires spent { self.old.spent ≡ false }
+        requires calm { self.old.recorder.gate.wanted ≡ false }
+        requires none { NoneOut self.old.workers worker self.old.recorder.gate }
         requires serves { MayServe worker h self.old }
         ensures { (t : Terms) (total : ℕ) → IsBook t total self.old → IsVisited t (total + result) self.new }
     {
-        let turned = turn(&mut self.recorder, h);
+        self.recorder.kept();
+        let turned = turn(&mut self.recorder, h, 0);
         self.last[worker as usize] = Some(h);
         self.spent = !turned.whole;
         turned.made
@@ -157,45 +173,135 @@ impl Running {
     }
 
     /// Does what is due after a visit.
-    fn settle(&mut self, alloc: Global)
+    pub fn settle(&mut self, alloc: Global, plan: Option<&Plan>)
+        requires { IfSome plan (λ m. FitsNow m.now self.old.recorder) }
         ensures { (t : Terms) (total : ℕ) → IsVisited t total self.old → IsBook t total self.new }
     {
-        match settle(&mut self.recorder, alloc, self.every) {
+        match settle(&mut self.recorder, alloc, self.every, plan) {
             Ok(Settled::Snapped) => self.hand_out(),
             Ok(_) => {}
             Err(NoMemory) => self.spent = true,
         }
     }
 
-    /// The visit of a worker's next hart, if one is live, and what is due after it. It says how many real steps were made.
+    /// The hart that a worker serves next, if a visit may begin: one of its harts is live, none is away, and no stop is wanted.
+    pub fn may_begin(&self, worker: u32) -> Option<u32>
+        ensures serves { IfSome result (λ h. MayServe worker h self.now) }
+        ensures none { IfSome result (λ h. NoneOut self.now.workers worker self.now.recorder.gate) }
+        ensures calm { IfSome result (λ h. self.now.recorder.gate.wanted ≡ false) }
+    {
+        if self.recorder.wanted() || worker >= self.workers {
+            return None;
+        }
+        if has_out(&self.recorder, self.workers, worker) {
+            return None;
+        }
+        self.next(worker)
+    }
+
+    /// The visit of a worker's next hart under the lock, if one may begin. It says how many real steps were made.
     fn serve(&mut self, alloc: Global, worker: u32) -> u64
         requires goes_on { GoesOn self.old.limit self.old.recorder }
         requires spent { self.old.spent ≡ false }
         ensures { (t : Terms) (total : ℕ) → IsBook t total self.old → IsBook t (total + result) self.new }
     {
-        match self.next(worker) {
+        match self.may_begin(worker) {
             Some(h) => {
                 let made = self.visit(worker, h);
-                self.settle(alloc);
+                self.settle(alloc, None);
                 made
             }
             None => 0,
         }
     }
 
-    /// One lock section of a worker: the attempt of the pending snapshot, where its plan has come, a visit, and what is due after it. It
-    /// says how many real steps were made.
-    pub fn section(&mut self, alloc: Global, worker: u32, plan: Option<Plan>) -> u64
-        requires fits { IfSome plan (λ m. FitsNow m self.old.recorder) }
+    /// One lock section of a worker with a whole visit: the attempt that is due, the visit, and what is due after it. It says how many real
+    /// steps were made.
+    pub fn section(&mut self, alloc: Global, worker: u32, plan: Option<&Plan>) -> u64
+        requires fits { IfSome plan (λ m. FitsNow m.now self.old.recorder) }
         ensures { (t : Terms) (total : ℕ) → IsBook t total self.old → IsBook t (total + result) self.new }
     {
         if self.is_done() {
             return 0;
         }
-        self.use_plan(plan);
+        self.catch_up(alloc, plan);
         if self.is_done() {
             return 0;
         }
         self.serve(alloc, worker)
+    }
+
+    /// Lets a hart go.
+    fn leave(&mut self, worker: u32, h: u32) -> Begun
+        requires goes_on { GoesOn self.old.limit self.old.recorder }
+        requires spent { self.old.spent ≡ false }
+        requires calm { self.old.recorder.gate.wanted ≡ false }
+        requires none { NoneOut self.old.workers worker self.old.recorder.gate }
+        requires serves { MayServe worker h self.old }
+        ensures { (t : Terms) (total : ℕ) → IsBook t total self.old → IsBook t total self.new }
+    {
+        self.recorder.kept();
+        match self.recorder.take_away(h) {
+            Ok(away) => Begun::Left(away),
+            Err(AwayFault::NoMemory) => {
+                self.spent = true;
+                Begun::Nothing
+            }
+            Err(_) => Begun::Nothing,
+        }
+    }
+
+    /// The lock section that begins a visit: the attempt that is due, and then a hart leaves.
+    pub fn begin(&mut self, alloc: Global, worker: u32, plan: Option<&Plan>) -> Begun
+        requires fits { IfSome plan (λ m. FitsNow m.now self.old.recorder) }
+        ensures { (t : Terms) (total : ℕ) → IsBook t total self.old → IsBook t total self.new }
+    {
+        if self.is_done() {
+            return Begun::Nothing;
+        }
+        self.catch_up(alloc, plan);
+        if self.is_done() {
+            return Begun::Nothing;
+        }
+        if self.recorder.wanted() {
+            return Begun::Held;
+        }
+        match self.may_begin(worker) {
+            Some(h) => self.leave(worker, h),
+            None => Begun::Nothing,
+        }
+    }
+
+    /// A hart came home as a stranger.
+    pub fn count_stranger(&mut self)
+        ensures { (t : Terms) (total : ℕ) → IsBook t total self.old → IsBook t total self.new }
+    {
+        self.strangers = self.strangers.saturating_add(1);
+    }
+
+    /// Brings a hart home and makes the rest of its visit. It says how many real steps the visit has.
+    pub fn land(&mut self, away: Away) -> u64
+        requires spent { self.old.spent ≡ false }
+        requires goes_on { is_some self.old.recorder.at.machine.outcome ≡ false }
+        requires away { is_away self.old.recorder.gate away.hart ≡ true }
+        requires some { 0 < self.old.workers }
+        requires many { self.old.workers ≤ length self.old.last.items }
+        ensures { (t : Terms) (total : ℕ) → IsBook t total self.old → IsVisited t (total + result) self.new }
+    {
+        let _harts = self.recorder.world().made();
+        let h = away.hart();
+        let made = away.made() as u64;
+        match self.recorder.home(away) {
+            Ok(()) => {
+                let turned = turn(&mut self.recorder, h, made);
+                self.last[(h % self.workers) as usize] = Some(h);
+                self.spent = !turned.whole;
+                turned.made
+            }
+            Err(_) => {
+                self.strangers = self.strangers.saturating_add(1);
+                0
+            }
+        }
     }
 }

@@ -1,30 +1,8 @@
-use Rattle.run_book.proofs.Attempts.{cut_run, cut_last, made_run, made_rests, made_last}
+use Rattle.std.proofs.Common.{rules}
+use Rattle.run_book.proofs.Stops.{attempt_rested}
 use Rattle.run_book.proofs.attempt.attempt.Goals as goal
 
-pub returns-in_err-made-clause-run : goal.returns-in_err-made-clause-run
-returns-in_err-made-clause-run c t run =
-    cut_run c.args.world.now c.retire.new.self c.replace-answer.new.self c.args.plan.now _ c.replace-answer.result c.requires.goes_on c.requires.fits c.in_ok-retire.ensures.is
-    c.in_ok-retire.ensures.journal c.retire.ensures.marks c.retire.ensures.related c.in_err-made.ensures.err c.replace-answer.ensures.err t run
-
-pub returns-in_err-made-clause-last : goal.returns-in_err-made-clause-last
-returns-in_err-made-clause-last c t last run are =
-    cut_last c.args.world.now c.retire.new.self c.replace-answer.new.self c.args.plan.now _ c.replace-answer.result c.requires.goes_on c.requires.fits c.in_ok-retire.ensures.is
-    c.in_ok-retire.ensures.journal c.retire.ensures.marks c.retire.ensures.related c.in_err-made.ensures.err c.replace-answer.ensures.err t last run are
-
-pub returns-clause-run : goal.returns-clause-run
-returns-clause-run c t run =
-    made_run c.args.world.now c.retire.new.self c.replace-answer.new.self c.args.plan.now _ c.replace-answer.result c.requires.goes_on c.requires.fits c.in_ok-retire.ensures.is
-    c.in_ok-retire.ensures.journal c.retire.ensures.marks c.retire.ensures.related c.replace-answer.ensures.is c.replace-answer.ensures.journal c.replace-answer.ensures.marks
-    c.replace-answer.ensures.related c.in_ok-made.ensures.ok t run
-
-pub returns-clause-rests : goal.returns-clause-rests
-returns-clause-rests c t spare fair run amid =
-    made_rests c.args.world.now c.retire.new.self c.replace-answer.new.self c.args.plan.now _ c.replace-answer.result c.requires.goes_on c.requires.fits c.in_ok-retire.ensures.is
-    c.in_ok-retire.ensures.journal c.retire.ensures.marks c.retire.ensures.related c.replace-answer.ensures.is c.replace-answer.ensures.journal c.replace-answer.ensures.marks
-    c.replace-answer.ensures.related c.in_ok-made.ensures.ok t run spare fair amid
-
-pub returns-clause-last : goal.returns-clause-last
-returns-clause-last c t last run are =
-    made_last c.args.world.now c.retire.new.self c.replace-answer.new.self c.args.plan.now _ c.replace-answer.result c.requires.goes_on c.requires.fits c.in_ok-retire.ensures.is
-    c.in_ok-retire.ensures.journal c.retire.ensures.marks c.retire.ensures.related c.replace-answer.ensures.is c.replace-answer.ensures.journal c.replace-answer.ensures.marks
-    c.replace-answer.ensures.related c.in_ok-made.ensures.ok t run last are
+pub returns-in-Ok-clause-rests : goal.returns-in-Ok-clause-rests
+returns-in-Ok-clause-rests c =
+    attempt_rested c.args.world.now c.in-Ok.stopped.world.now c.attempt_stopped.new.world.world.now _ _ c.attempt_stopped.result c.in-Ok.ensures.now (search rules) (search rules)
+    c.attempt_stopped.ensures.rests
