@@ -1,0 +1,7 @@
+use Rattle.run_book.specs.Told.{told}
+use Rattle.board.proofs.Showing.{still_each}
+use Rattle.board.proofs.board.Board.begin.Goals as goal
+
+pub show-requires-clause-each : goal.show-requires-clause-each
+show-requires-clause-each g c =
+    still_each g.J.Run.terms (told c.begin-begun.new.self.world) (told c.self.inside.book.world) c.self.inside.pass.shown c.begin-begun.ensures.grows c.self.invariant.1.each
