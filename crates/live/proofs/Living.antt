@@ -1,5 +1,5 @@
 -- What a run of threads gives is what the words ask for.
-use Rattle.std.proofs.Common.{◌≡◌, inl, inr, ◌≤◌, ℕ, ◌+◌, ◌*◌, arith, Bool, false, List, length, Some, Result, Ok, Err, IfOk, refl, ap, sym, subst, ◌∙◌}
+use Rattle.std.proofs.Common.{◌≡◌, inl, inr, ◌≤◌, ℕ, ◌+◌, ◌*◌, arith, Bool, false, List, [], length, Some, Result, Ok, Err, IfOk, refl, ap, sym, subst, ◌∙◌}
 use Rattle.std.proofs.lemmas.List.{length-map}
 use Rattle.std.specs.Prelude.{is_some}
 use Rattle.std.specs.Option.{option_map}
@@ -48,7 +48,7 @@ pub record Laws : Type 0 where
 
 -- the terms of a run on the words
 abbrev pub terms_by : Picture → (input : List ℕ) → Words → Terms
-terms_by image input said = record { image = image; input = input; ring = said.ring; workers = said.workers; every = said.every; limit = said.limit }
+terms_by image input said = record { image = image; input = input; ring = said.ring; workers = said.workers; every = said.every; limit = said.limit; begins = [] }
 
 pub fair : (image : Picture) (input : List ℕ) (said : Words) → AreInRange said → AreFair (terms_by image input said)
 fair image input said are = record {

@@ -68,6 +68,7 @@ terms_of image asked = record {
   workers = asked.said.workers;
   every = asked.said.every;
   limit = asked.said.limit;
+  begins = [];
 }
 
 -- A run of the image of the program that was read, on the words' terms. Threads choose which.

@@ -3,6 +3,7 @@
 ghost use Rattle.std.specs.Prelude.{◌≡◌, IfSome, map, string_bytes};
 ghost use Rattle.image.specs.Picture.{IsPaged};
 ghost use Rattle.live_words.specs.Words.{AreInRange};
+ghost use Rattle.board.specs.Boarded.{new_writer};
 ghost use Rattle.top_call.specs.Call.{Decided};
 ghost use Rattle.top_call.specs.Outside.{Outside, no_device, with_files, with_input, with_out, with_err};
 ghost use Rattle.live.specs.Decision as decision;
@@ -13,6 +14,7 @@ use crate::life::Life;
 use crate::lived::Lived;
 use crate::run::run;
 use crate::writing::finish_call;
+use ahead::away::Away;
 use command_words::fault::WordsFault;
 use live_words::words::{Words, read_words};
 use oc_base::files::Files;
@@ -24,18 +26,22 @@ use std::alloc::Global;
 use std::sync::Wait;
 use std::thread::Threads;
 use top_call::reading::{fetch, fetch_input};
+use watch::watch::{Pass, Watch};
 
 // What the program's file and the input ask for.
-fn decide_words<F: Files, I: Source, G: Pace<()> + Sync, R: Threads + Wait + Sync>(
+fn decide_words<F: Files, I: Source, G: Pace<Away> + Sync, R: Threads + Wait + Sync>(
     rt: &R,
     alloc: Global,
     said: &Words,
     files: &mut F,
     input: &mut I,
     pace: &G,
+    watch: &Watch,
+    writer: Pass,
 ) -> Result<Life, Ended>
     requires pages { IfSome said.now.region IsPaged }
     requires ranges { AreInRange said.now }
+    requires writer { writer ≡ new_writer watch.now }
     ensures { (rest : Outside) → Decided decision.live (decision.reading_by said.now)
         (with_files F.Files files.old (with_input I.Source input.old rest)) (with_files F.Files files.new (with_input I.Source input.new rest)) result }
 {
@@ -47,18 +53,30 @@ fn decide_words<F: Files, I: Source, G: Pace<()> + Sync, R: Threads + Wait + Syn
         Ok(bytes) => bytes,
         Err(why) => return Err(Ended::from(why)),
     };
-    run(rt, alloc, program.as_slice(), bytes.into_vec(), said, pace)
+    run(
+        rt,
+        alloc,
+        program.as_slice(),
+        bytes.into_vec(),
+        said,
+        pace,
+        watch,
+        writer,
+    )
 }
 
 // What the words, the files and the input ask for.
-fn decide<F: Files, I: Source, G: Pace<()> + Sync, R: Threads + Wait + Sync>(
+fn decide<F: Files, I: Source, G: Pace<Away> + Sync, R: Threads + Wait + Sync>(
     rt: &R,
     alloc: Global,
     words: &[String],
     files: &mut F,
     input: &mut I,
     pace: &G,
+    watch: &Watch,
+    writer: Pass,
 ) -> Result<Life, Ended>
+    requires { writer ≡ new_writer watch.now }
     ensures { (rest : Outside) → Decided decision.live (decision.reading_of (map string_bytes words.now))
         (with_files F.Files files.old (with_input I.Source input.old rest)) (with_files F.Files files.new (with_input I.Source input.new rest)) result }
 {
@@ -67,7 +85,7 @@ fn decide<F: Files, I: Source, G: Pace<()> + Sync, R: Threads + Wait + Sync>(
         Err(WordsFault::Usage) => return Err(Ended::Usage),
         Err(WordsFault::NoMemory) => return Err(Ended::NoMemory),
     };
-    decide_words(rt, alloc, &said, files, input, pace)
+    decide_words(rt, alloc, &said, files, input, pace, watch, writer)
 }
 
 /// Runs a program by threads and writes what the run delivers.
@@ -81,7 +99,7 @@ fn decide<F: Files, I: Source, G: Pace<()> + Sync, R: Threads + Wait + Sync>(
 /// The answer has the report of a run, written or not, and the log of the run, of which the record is the text: as a script for the same
 /// program with the same input, region and ring it comes to the same end. On every refusal only the last line is written; to run out of
 /// memory is such a refusal.
-pub fn live<F: Files, I: Source, O: Sink, E: Sink, G: Pace<()> + Sync, R: Threads + Wait + Sync>(
+pub fn live<F: Files, I: Source, O: Sink, E: Sink, G: Pace<Away> + Sync, R: Threads + Wait + Sync>(
     rt: &R,
     alloc: Global,
     words: &[String],
@@ -95,6 +113,40 @@ pub fn live<F: Files, I: Source, O: Sink, E: Sink, G: Pace<()> + Sync, R: Thread
         (with_files F.Files files.old (with_input I.Source input.old (with_out O.Sink out.old (with_err E.Sink err.old no_device))))
         (with_files F.Files files.new (with_input I.Source input.new (with_out O.Sink out.new (with_err E.Sink err.new no_device)))) result }
 {
-    let decision = decide(rt, alloc, words, files, input, pace);
+    let Ok((watch, writer)) = Watch::new(alloc) else {
+        return finish_call(alloc, Err(Ended::NoMemory), files, out, err);
+    };
+    live_shown(
+        rt, alloc, words, files, input, out, err, pace, &watch, writer,
+    )
+}
+
+/// Does what `live` does, and shows the counts of the run on a watch while it goes on: after each section under the lock those of the world so far. So
+/// `pace`, or another thread, may look with a reader's pass. `writer` is the writer's pass of the watch, on which nothing was shown yet.
+pub fn live_shown<
+    F: Files,
+    I: Source,
+    O: Sink,
+    E: Sink,
+    G: Pace<Away> + Sync,
+    R: Threads + Wait + Sync,
+>(
+    rt: &R,
+    alloc: Global,
+    words: &[String],
+    files: &mut F,
+    input: &mut I,
+    out: &mut O,
+    err: &mut E,
+    pace: &G,
+    watch: &Watch,
+    writer: Pass,
+) -> Lived
+    requires { writer ≡ new_writer watch.now }
+    ensures { Promise (map string_bytes words.now)
+        (with_files F.Files files.old (with_input I.Source input.old (with_out O.Sink out.old (with_err E.Sink err.old no_device))))
+        (with_files F.Files files.new (with_input I.Source input.new (with_out O.Sink out.new (with_err E.Sink err.new no_device)))) result }
+{
+    let decision = decide(rt, alloc, words, files, input, pace, watch, writer);
     finish_call(alloc, decision, files, out, err)
 }

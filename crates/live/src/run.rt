@@ -5,6 +5,7 @@ ghost use Rattle.image.specs.Picture.{IsPaged, IsKept};
 ghost use Rattle.sched_log.specs.Printed.{printed};
 ghost use Rattle.live_words.specs.Words.{AreInRange};
 ghost use Rattle.live_threads.specs.Ran.{HasRun};
+ghost use Rattle.board.specs.Boarded.{new_writer};
 ghost use Rattle.run_book.specs.Told.{told};
 ghost use Rattle.top_call.specs.Call.{UnlessFull};
 ghost use Rattle.delivered.specs.Deliveries.{delivery_of};
@@ -14,11 +15,12 @@ ghost use Rattle.machine.specs.declared.outcome.Outcome.{Outcome};
 
 use crate::life::{Life, RecordFile};
 use crate::telling::tell_all;
+use ahead::away::Away;
 use delivered::build::build;
 use delivered::deliver::deliver;
 use delivered::laws::{headline_law, one_run_law};
 use image::picture::Image;
-use live_threads::run::{Ran, run_threads};
+use live_threads::run::{Ran, run_shown};
 use live_words::words::Words;
 use machine::outcome::Outcome;
 use oc_base::fault::NoMemory;
@@ -32,6 +34,7 @@ use sched_log::write::write_log;
 use std::alloc::Global;
 use std::sync::Wait;
 use std::thread::Threads;
+use watch::watch::{Pass, Watch};
 
 // The record for the file of this name, if there is one.
 fn file_of(
@@ -73,24 +76,27 @@ fn life_of(alloc: Global, ran: Ran, said: &Words) -> Result<Life, NoMemory>
     })
 }
 
-// The run of an image by threads.
-fn run_image<G: Pace<()> + Sync, R: Threads + Wait + Sync>(
+// The run of an image by threads, shown on a watch.
+fn run_image<G: Pace<Away> + Sync, R: Threads + Wait + Sync>(
     rt: &R,
     alloc: Global,
     image: Image,
     input: Vec<u8>,
     said: &Words,
     pace: &G,
+    watch: &Watch,
+    writer: Pass,
 ) -> Result<Life, NoMemory>
     requires kept { IsKept image }
     requires ranges { AreInRange said.now }
+    requires writer { writer ≡ new_writer watch.now }
     ensures { IfOk result (HasLived (terms_of image (record { program = []; input = input.items; said = said.now })) said.now) }
 {
     plays_law();
     record_law();
     headline_law();
     one_run_law();
-    let ran = run_threads(
+    let (ran, _writer) = run_shown(
         rt,
         alloc,
         image,
@@ -100,30 +106,35 @@ fn run_image<G: Pace<()> + Sync, R: Threads + Wait + Sync>(
         said.every,
         said.limit,
         pace,
+        watch,
+        writer,
     )?;
     ran.recorder.world().kept();
     let _made = ran.recorder.world().made();
     life_of(alloc, ran, said)
 }
 
-/// Runs the program by threads, with the input, as the words say.
-pub fn run<G: Pace<()> + Sync, R: Threads + Wait + Sync>(
+/// Runs the program by threads, with the input, as the words say, and shows its counts on a watch.
+pub fn run<G: Pace<Away> + Sync, R: Threads + Wait + Sync>(
     rt: &R,
     alloc: Global,
     program: &[u8],
     input: Vec<u8>,
     said: &Words,
     pace: &G,
+    watch: &Watch,
+    writer: Pass,
 ) -> Result<Life, Ended>
     requires pages { IfSome said.now.region IsPaged }
     requires ranges { AreInRange said.now }
+    requires writer { writer ≡ new_writer watch.now }
     ensures { UnlessFull Ended.NoMemory (Lives (record { program = program.now; input = input.items; said = said.now })) result }
 {
     let image = match build(alloc, program, said.region) {
         Ok(image) => image,
         Err(ended) => return Err(ended),
     };
-    let Ok(life) = run_image(rt, alloc, image, input, said, pace) else {
+    let Ok(life) = run_image(rt, alloc, image, input, said, pace, watch, writer) else {
         return Err(Ended::NoMemory);
     };
     Ok(life)

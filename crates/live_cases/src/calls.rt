@@ -1,9 +1,14 @@
 //! Calls of `live` and `play` over devices in memory.
 
+ghost use Rattle.std.specs.Prelude.{◌≡◌};
+ghost use Rattle.board.specs.Boarded.{new_writer};
+
+use ahead::away::Away;
 use cases::guests::with_newlines;
 use cases::images::file_of;
 use guest_gen::call::make;
-use live::call::live;
+use live::call::{live, live_shown};
+use live::lived::Lived;
 use oc_base::memory::{MemFiles, MemSink, MemSource};
 use oc_base::pace::Pace;
 use play::call::play;
@@ -12,6 +17,7 @@ use std::alloc::Global;
 use std::sync::Wait;
 use std::test::Fail;
 use std::thread::Threads;
+use watch::watch::{Pass, Watch};
 
 /// What a call came to.
 #[derive(Drop)]
@@ -72,8 +78,47 @@ fn files_with(alloc: Global, program: Vec<u8>, fails: &str) -> Result<MemFiles, 
     Ok(MemFiles::new(files, numbers(alloc, fails)?))
 }
 
+/// What a call is given.
+#[derive(Drop)]
+struct Given {
+    words: Vec<String>,
+    files: MemFiles,
+    input: MemSource,
+    out: MemSink,
+    err: MemSink,
+}
+
+/// The program `p`, these words and this input. The calls of the files and of the first output that have these numbers fail.
+fn given(
+    alloc: Global,
+    program: Vec<u8>,
+    words: &str,
+    input: &str,
+    fails: (&str, &str),
+) -> Result<Given, Fail> {
+    Ok(Given {
+        words: words_of(alloc, words)?,
+        files: files_with(alloc, program, fails.0)?,
+        input: MemSource::new(input.as_bytes().to_vec(alloc)?, Vec::new(alloc)),
+        out: MemSink::new(Vec::new(alloc), numbers(alloc, fails.1)?),
+        err: MemSink::new(Vec::new(alloc), Vec::new(alloc)),
+    })
+}
+
+/// What it came to.
+fn seen(alloc: Global, lived: Lived, given: &Given) -> Result<Seen, Fail> {
+    Ok(Seen {
+        status: lived.answer.status,
+        out: given.out.held().to_vec(alloc)?,
+        err: given.err.held().to_vec(alloc)?,
+        record: given.files.file("record").unwrap_or(&[]).to_vec(alloc)?,
+        log: lived.log.into_vec(),
+        shares: lived.shares,
+    })
+}
+
 /// Runs the program `p` with these words and this input. The calls of the files and of the first output that have these numbers fail.
-pub fn run<G: Pace<()> + Sync, R: Threads + Wait + Sync>(
+pub fn run<G: Pace<Away> + Sync, R: Threads + Wait + Sync>(
     rt: &R,
     alloc: Global,
     program: Vec<u8>,
@@ -82,22 +127,46 @@ pub fn run<G: Pace<()> + Sync, R: Threads + Wait + Sync>(
     fails: (&str, &str),
     pace: &G,
 ) -> Result<Seen, Fail> {
-    let words = words_of(alloc, words)?;
-    let mut files = files_with(alloc, program, fails.0)?;
-    let mut input = MemSource::new(input.as_bytes().to_vec(alloc)?, Vec::new(alloc));
-    let mut out = MemSink::new(Vec::new(alloc), numbers(alloc, fails.1)?);
-    let mut err = MemSink::new(Vec::new(alloc), Vec::new(alloc));
+    let mut on = given(alloc, program, words, input, fails)?;
     let lived = live(
-        rt, alloc, &words, &mut files, &mut input, &mut out, &mut err, pace,
+        rt,
+        alloc,
+        &on.words,
+        &mut on.files,
+        &mut on.input,
+        &mut on.out,
+        &mut on.err,
+        pace,
     );
-    Ok(Seen {
-        status: lived.answer.status,
-        out: out.held().to_vec(alloc)?,
-        err: err.held().to_vec(alloc)?,
-        record: files.file("record").unwrap_or(&[]).to_vec(alloc)?,
-        log: lived.log.into_vec(),
-        shares: lived.shares,
-    })
+    seen(alloc, lived, &on)
+}
+
+/// Runs the program `p` with these words and no input, and shows its counts on a watch.
+pub fn run_on<G: Pace<Away> + Sync, R: Threads + Wait + Sync>(
+    rt: &R,
+    alloc: Global,
+    program: Vec<u8>,
+    words: &str,
+    pace: &G,
+    watch: &Watch,
+    writer: Pass,
+) -> Result<Seen, Fail>
+    requires { writer ≡ new_writer watch.now }
+{
+    let mut on = given(alloc, program, words, "", ("", ""))?;
+    let lived = live_shown(
+        rt,
+        alloc,
+        &on.words,
+        &mut on.files,
+        &mut on.input,
+        &mut on.out,
+        &mut on.err,
+        pace,
+        watch,
+        writer,
+    );
+    seen(alloc, lived, &on)
 }
 
 /// What `play` of a program and a script writes to its first output.

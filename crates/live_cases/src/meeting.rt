@@ -1,5 +1,6 @@
 //! Two threads that meet at places of their choice.
 
+use ahead::away::Away;
 use oc_base::pace::Pace;
 use std::sync::atomic::{AtomicBool, Ordering};
 
@@ -12,6 +13,10 @@ pub enum Place {
     Placed { job: u64 },
     /// A plan has been put, of whatever job.
     AnyPlaced,
+    /// A worker has made steps of a hart out of the lock, and has yet to bring them home.
+    Away { worker: u32, hart: u32 },
+    /// The same, of whichever of its harts.
+    AnyAway { worker: u32 },
 }
 
 /// Turns after which a meeting is given up.
@@ -61,9 +66,18 @@ impl Meeting {
     }
 }
 
-impl Pace<()> for Meeting {
+impl Pace<Away> for Meeting {
     fn before(&self, worker: u32, round: u64) {
         self.come(Place::Before { worker, round });
+    }
+
+    fn away(&self, worker: u32, _round: u64, away: &Away) {
+        if away.made() == 0 {
+            return;
+        }
+        let hart = away.hart();
+        self.come(Place::Away { worker, hart });
+        self.come(Place::AnyAway { worker });
     }
 
     fn placed(&self, job: u64) {

@@ -1,4 +1,5 @@
-//! Threads that have to meet: workers are threads of their own, and a plan is placed beside the worker that goes on.
+//! Threads that have to meet: workers are threads of their own, harts of two of them are out of the lock at once, and a plan is placed
+//! beside the worker that goes on.
 
 use crate::calls::{Seen, is_told, must, program, run};
 use crate::meeting::{Meeting, Place};
@@ -37,6 +38,22 @@ fn two_workers_are_two_threads(rt: HostRuntime) -> Result<(), Fail> {
         },
     );
     let seen = met(&rt, alloc, "p --workers 2", &meeting)?;
+    must(
+        is_told(alloc, &seen, "0|18000/|ocolos: exit 0/")?,
+        "another end",
+    )
+}
+
+// Hart 0 makes the others. The worker of harts 0 and 2 waits, with steps of hart 2 made out of the lock, for the other to have made some too.
+#[test]
+fn harts_of_two_workers_are_out_of_the_lock_at_once(rt: HostRuntime) -> Result<(), Fail> {
+    let alloc = rt.alloc();
+    let meeting = Meeting::of(
+        Place::Away { worker: 0, hart: 2 },
+        Place::AnyAway { worker: 1 },
+    );
+    let words = "p --workers 2 --every 100000000";
+    let seen = met(&rt, alloc, words, &meeting)?;
     must(
         is_told(alloc, &seen, "0|18000/|ocolos: exit 0/")?,
         "another end",

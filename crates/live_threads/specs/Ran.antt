@@ -1,5 +1,5 @@
 -- What a run of threads gives. Source: this project.
-use Rattle.std.specs.Prelude.{◌≡◌, ◌≤◌, ◌<◌, ◌+◌, ◌*◌, ℕ, List, length}
+use Rattle.std.specs.Prelude.{◌≡◌, ◌≤◌, ◌<◌, ◌+◌, ◌*◌, ℕ, List, [], length}
 use Rattle.image.specs.Picture.{Picture}
 use Rattle.pacing.specs.Clocks.{reals}
 use Rattle.pacing.specs.Limits.{visit_limit, entry_limit, visit_entries}
@@ -13,7 +13,7 @@ use Rattle.live_threads.specs.declared.run.Ran.{Ran}
 
 abbrev pub terms_of : Picture → (input : List ℕ) → (ring workers every limit : ℕ) → Terms
 terms_of image input ring workers every limit =
-    record { image = image; input = input; ring = ring; workers = workers; every = every; limit = limit }
+    record { image = image; input = input; ring = ring; workers = workers; every = every; limit = limit; begins = [] }
 
 -- a run by these terms
 pub record HasRun (t : Terms) (r : Ran) : Type 0 where

@@ -5,9 +5,10 @@ ghost use Rattle.std.specs.Prelude.{◌≡◌, ◌<◌, ◌+◌, length, vec_len
 use crate::desk::Shared;
 use crate::placing::{Chart, place_all};
 use crate::working::{serve, work};
+use ahead::away::Away;
+use board::board::Watched;
 use oc_base::fault::NoMemory;
 use oc_base::pace::Pace;
-use run_book::book::Run;
 use run_book::hand::{Hand, Seat};
 use std::alloc::Global;
 use std::sync::Wait;
@@ -27,9 +28,9 @@ fn none_refused(alloc: Global, workers: u32) -> Result<Vec<AtomicBool>, NoMemory
 }
 
 /// Waits for threads of workers, and takes their seats in.
-fn gather<J: Run, R: Threads + Wait>(
+fn gather<J: Watched, R: Threads + Wait>(
     rt: &R,
-    shared: &Shared<J>,
+    shared: &Shared<'_, J>,
     children: Vec<JoinHandle<Seat<J>>>,
     all: &mut Hand<J>,
 )
@@ -38,15 +39,15 @@ fn gather<J: Run, R: Threads + Wait>(
     let mut children = children;
     while let Some(child) = children.pop() {
         let seat = child.join(rt);
-        shared.desk.lock(rt).book.merge(all, seat.hand);
+        shared.desk.lock(rt).board.merge(all, seat.hand);
     }
 }
 
 /// Starts a placer and the workers but worker 0, whose rounds are the caller's, as are those of each worker for which no thread can be
 /// started. It gives the ledger back once they have ended.
-fn with_threads<J: Run + Send + Sync, G: Pace<()> + Sync, R: Threads + Wait + Sync>(
+fn with_threads<J: Watched + Send + Sync, G: Pace<Away> + Sync, R: Threads + Wait + Sync>(
     rt: &R,
-    shared: &Shared<J>,
+    shared: &Shared<'_, J>,
     pace: &G,
     chart: &Chart<J>,
     refused: &[AtomicBool],
@@ -78,7 +79,7 @@ fn with_threads<J: Run + Send + Sync, G: Pace<()> + Sync, R: Threads + Wait + Sy
                     Err(back) => {
                         is_refused.store(true, Ordering::SeqCst);
                         let seat = (back.value)();
-                        shared.desk.lock(rt).book.merge(&mut all, seat.hand);
+                        shared.desk.lock(rt).board.merge(&mut all, seat.hand);
                         own.push_reserved(worker);
                     }
                 }
@@ -91,9 +92,9 @@ fn with_threads<J: Run + Send + Sync, G: Pace<()> + Sync, R: Threads + Wait + Sy
 }
 
 /// Runs the workers and a placer over a book, until nothing is left to do.
-pub fn run_crew<J: Run + Send + Sync, G: Pace<()> + Sync, R: Threads + Wait + Sync>(
+pub fn run_crew<J: Watched + Send + Sync, G: Pace<Away> + Sync, R: Threads + Wait + Sync>(
     rt: &R,
-    shared: &Shared<J>,
+    shared: &Shared<'_, J>,
     pace: &G,
     chart: &Chart<J>,
     workers: u32,

@@ -3,6 +3,8 @@
 ghost use Rattle.std.specs.Prelude.{◌≡◌};
 
 use crate::desk::Shared;
+use ahead::away::Away;
+use board::board::Watched;
 use image::picture::Image;
 use oc_base::pace::Pace;
 use placer::place::place;
@@ -31,17 +33,17 @@ impl<J: Run> Chart<J> {
 }
 
 /// Works the plan of the next job out. It is false once nothing is left to do. Out of memory, the job is dropped.
-fn place_next<J: Run, G: Pace<()>, R: Threads + Wait + Sync>(
+fn place_next<J: Watched, G: Pace<Away>, R: Threads + Wait + Sync>(
     rt: &R,
-    shared: &Shared<J>,
+    shared: &Shared<'_, J>,
     pace: &G,
     chart: &Chart<J>,
 ) -> bool {
     let mut desk = shared.await_job(rt);
-    if desk.book.is_done() {
+    if desk.board.book().is_done() {
         return false;
     }
-    let Some(job) = desk.book.take_job(shared.alloc) else {
+    let Some(job) = desk.board.take_job(shared.alloc) else {
         return true;
     };
     drop(desk);
@@ -49,15 +51,15 @@ fn place_next<J: Run, G: Pace<()>, R: Threads + Wait + Sync>(
     let Ok(placed) = place::<J, R>(rt, shared.alloc, &chart.image, job) else {
         return true;
     };
-    shared.desk.lock(rt).book.put_plan(placed);
+    shared.desk.lock(rt).board.put_plan(placed);
     pace.placed(number);
     true
 }
 
 /// Works plans out, until nothing is left to do.
-pub fn place_all<J: Run, G: Pace<()>, R: Threads + Wait + Sync>(
+pub fn place_all<J: Watched, G: Pace<Away>, R: Threads + Wait + Sync>(
     rt: &R,
-    shared: &Shared<J>,
+    shared: &Shared<'_, J>,
     pace: &G,
     chart: &Chart<J>,
 ) {

@@ -3,16 +3,48 @@
 ghost use Rattle.std.specs.Prelude.{◌≡◌, ◌<◌};
 
 use crate::desk::Shared;
+use ahead::ahead::ahead;
+use ahead::away::Away;
+use board::board::Watched;
 use oc_base::pace::Pace;
-use run_book::book::Run;
 use run_book::hand::{Hand, Seat};
+use run_book::running::Begun;
 use std::sync::Wait;
 use std::sync::atomic::{AtomicBool, Ordering};
 
-/// One round of a worker. The thread waits until one of its workers has a live hart. It is false once nothing is left to do.
-fn round<J: Run, G: Pace<()>, R: Wait>(
+/// The most real steps of a visit.
+const VISIT_LIMIT: u32 = 64;
+
+/// A visit of a worker from where its hart has left: its steps out of the lock, and then the section that takes it home. It is false once
+/// nothing is left to do.
+fn visit<J: Watched, G: Pace<Away>, R: Wait>(
     rt: &R,
-    shared: &Shared<J>,
+    shared: &Shared<'_, J>,
+    pace: &G,
+    worker: u32,
+    number: u64,
+    away: Away,
+    hand: &mut Hand<J>,
+) -> bool
+    requires { 0 < hand.old.parts }
+    ensures { hand.new.parts ≡ hand.old.parts }
+{
+    let mut away = away;
+    ahead(&mut away, VISIT_LIMIT);
+    pace.away(worker, number, &away);
+    let mut desk = shared.desk.lock(rt);
+    desk.board.end(rt, shared.alloc, away, hand);
+    let news = desk.news();
+    drop(desk);
+    shared.tell(news);
+    !news.is_done
+}
+
+/// One round of a worker, which makes at most one visit. The thread waits until one of its workers can begin one. It is false once nothing
+/// is left to do.
+fn round<J: Watched, G: Pace<Away>, R: Wait>(
+    rt: &R,
+    shared: &Shared<'_, J>,
     pace: &G,
     workers: &[u32],
     worker: u32,
@@ -23,18 +55,21 @@ fn round<J: Run, G: Pace<()>, R: Wait>(
     ensures { hand.new.parts ≡ hand.old.parts }
 {
     pace.before(worker, number);
-    let mut desk = shared.await_hart(rt, workers);
-    desk.book.section(shared.alloc, worker, hand);
+    let mut desk = shared.await_visit(rt, workers);
+    let begun = desk.board.begin(rt, shared.alloc, worker);
     let news = desk.news();
     drop(desk);
     shared.tell(news);
-    !news.is_done
+    match begun {
+        Begun::Left(away) => visit(rt, shared, pace, worker, number, away, hand),
+        Begun::Held | Begun::Nothing => !news.is_done,
+    }
 }
 
 /// The rounds of one number, of each of these workers in turn. It is false once nothing is left to do.
-fn turn<J: Run, G: Pace<()>, R: Wait>(
+fn turn<J: Watched, G: Pace<Away>, R: Wait>(
     rt: &R,
-    shared: &Shared<J>,
+    shared: &Shared<'_, J>,
     pace: &G,
     workers: &[u32],
     number: u64,
@@ -52,9 +87,9 @@ fn turn<J: Run, G: Pace<()>, R: Wait>(
 }
 
 /// Makes the rounds of these workers, until nothing is left to do.
-pub fn serve<J: Run, G: Pace<()>, R: Wait>(
+pub fn serve<J: Watched, G: Pace<Away>, R: Wait>(
     rt: &R,
-    shared: &Shared<J>,
+    shared: &Shared<'_, J>,
     pace: &G,
     workers: &[u32],
     hand: &mut Hand<J>,
@@ -72,9 +107,9 @@ pub fn serve<J: Run, G: Pace<()>, R: Wait>(
 }
 
 /// A worker's thread. Where no thread could be started for it, it gives its seat back at once.
-pub fn work<J: Run, G: Pace<()>, R: Wait>(
+pub fn work<J: Watched, G: Pace<Away>, R: Wait>(
     rt: &R,
-    shared: &Shared<J>,
+    shared: &Shared<'_, J>,
     pace: &G,
     worker: u32,
     is_refused: &AtomicBool,

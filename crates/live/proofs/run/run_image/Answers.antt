@@ -13,5 +13,5 @@ returns g c =
     let few : c.in_ok-ran.ran.recorder.at.machine.system.made ≤ hart_limit = subst (λ (w : Replaced). w.machine.system.made ≤ hart_limit) same c.kept.ensures.system.few_made in
     lived_if
     (record { plays = c.plays_law.ensures; back = c.record_law.ensures.back; text = c.record_law.ensures.text; headline = c.headline_law.ensures; one_run = c.one_run_law.ensures.world })
-    c.args.image c.args.input.items c.args.said.now c.requires.kept c.requires.ranges c.in_ok-ran.ran c.in_ok-ran.ensures (subst (λ n. n ≤ hart_limit) (sym system ∙ harts) few) c.life_of.result
+    c.args.image c.args.input.items c.args.said.now c.requires.kept c.requires.ranges c.in_ok-ran.ran c.in_ok-ran.ensures.run (subst (λ n. n ≤ hart_limit) (sym system ∙ harts) few) c.life_of.result
     c.life_of.ensures.delivery c.life_of.ensures.log c.life_of.ensures.shares c.life_of.ensures.recorded
