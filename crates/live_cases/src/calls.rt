@@ -89,7 +89,7 @@ struct Given {
 }
 
 /// The program `p`, these words and this input. The calls of the files and of the first output that have these numbers fail.
-fn given(
+fn prepared(
     alloc: Global,
     program: Vec<u8>,
     words: &str,
@@ -106,7 +106,7 @@ fn given(
 }
 
 /// What it came to.
-fn seen(alloc: Global, lived: Lived, given: &Given) -> Result<Seen, Fail> {
+fn outcome(alloc: Global, lived: Lived, given: &Given) -> Result<Seen, Fail> {
     Ok(Seen {
         status: lived.answer.status,
         out: given.out.held().to_vec(alloc)?,
@@ -127,7 +127,7 @@ pub fn run<G: Pace<Away> + Sync, R: Threads + Wait + Sync>(
     fails: (&str, &str),
     pace: &G,
 ) -> Result<Seen, Fail> {
-    let mut on = given(alloc, program, words, input, fails)?;
+    let mut on = prepared(alloc, program, words, input, fails)?;
     let lived = live(
         rt,
         alloc,
@@ -138,7 +138,7 @@ pub fn run<G: Pace<Away> + Sync, R: Threads + Wait + Sync>(
         &mut on.err,
         pace,
     );
-    seen(alloc, lived, &on)
+    outcome(alloc, lived, &on)
 }
 
 /// Runs the program `p` with these words and no input, and shows its counts on a watch.
@@ -153,7 +153,7 @@ pub fn run_on<G: Pace<Away> + Sync, R: Threads + Wait + Sync>(
 ) -> Result<Seen, Fail>
     requires { writer ≡ new_writer watch.now }
 {
-    let mut on = given(alloc, program, words, "", ("", ""))?;
+    let mut on = prepared(alloc, program, words, "", ("", ""))?;
     let lived = live_shown(
         rt,
         alloc,
@@ -166,7 +166,7 @@ pub fn run_on<G: Pace<Away> + Sync, R: Threads + Wait + Sync>(
         watch,
         writer,
     );
-    seen(alloc, lived, &on)
+    outcome(alloc, lived, &on)
 }
 
 /// What `play` of a program and a script writes to its first output.
