@@ -5,7 +5,7 @@
 pub mod call;
 mod generated;
 mod run;
-mod schedule;
+pub mod schedule;
 
 /// The most bytes of a program's file.
 pub const PROGRAM_LIMIT: usize = 67108864;

@@ -1,0 +1,3 @@
+pub mod OneDecision
+pub mod Decided
+pub mod Promised

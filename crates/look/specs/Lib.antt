@@ -1,0 +1,5 @@
+pub mod Promise
+pub mod Decision
+pub mod Answer
+pub mod Meaning
+pub mod About

@@ -1,0 +1,4 @@
+pub mod Pieces
+pub mod Functions
+pub mod Overview
+pub mod Listing

@@ -1,0 +1,5 @@
+mod Searching
+pub mod Besides
+mod Taking
+mod Frees
+mod Opens
